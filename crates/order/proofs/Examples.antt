@@ -1,0 +1,81 @@
+-- Shows: the worked examples a to j of docs/RULES.md come out of the definitions, and with them a level run, which has the
+-- rightmost of several equals as each place's neighbour. One list, one claim, by computation.
+-- Assumes nothing.
+use Prim.Native.Nat.{ℕ, _+_, _-_, _<_, max}
+use mathlib.Core.Path.{_≡_, refl}
+use mathlib.Core.List.{List, [], _∷_, _++_, map, reverse}
+use mathlib.Core.Bool.{Bool, true, false, not, cond, _&&_, _||_}
+use lib.Dec.{leb, ltb, eqb}
+use lib.IntN.{ℤ, pos, negsuc}
+use lib.ListN.{length, getD, take, drop, replicate}
+use lib.Signed.{leZ}
+use Rattle.order.specs.Sizes.{none, place, entry, windowsOf, each, those, lowest, orElse}
+use Rattle.order.specs.Relations.{rel}
+use Rattle.order.specs.Isomorphic.{allBelow, isIso}
+use Rattle.order.specs.Neighbours.{nearer, nearest, lowOf, highOf, lowTable, highTable}
+use Rattle.order.specs.PlaceTest.{matches, sameSpot, against, thenHigh, testOf, passes, cost, failedAt}
+use Rattle.order.specs.Witnesses.{firstFail, neighbourAt, witnessI, witnessJ, witnessITable, witnessJTable}
+use Rattle.order.specs.Duels.{fallen, duel, byWitness, meets, after, arrive, arriveAll, entrants, duelled, duels, survivors}
+use Rattle.order.specs.Sweeping.{onTest, tests, sweepOne, sweepAll, testsOf, sweptBy, sweepCost, positions}
+use Rattle.order.specs.Written.{occurrences}
+
+pub data Example : Type 0 where
+  -- a pattern; its low, high, witness i and witness j tables
+  tables : List ℤ → List ℕ → List ℕ → List ℕ → List ℕ → Example
+  -- a pattern and a trace; N, D, the survivors, W and the listed positions
+  searched : List ℤ → List ℤ → ℕ → ℕ → List ℕ → ℕ → List ℕ → Example
+
+pub sameList : List ℕ → List ℕ → Bool
+sameList [] [] = true
+sameList [] (y ∷ ys) = false
+sameList (x ∷ xs) [] = false
+sameList (x ∷ xs) (y ∷ ys) = eqb x y && sameList xs ys
+
+pub right : Example → Bool
+right (tables P low high i j) =
+    sameList (lowTable P) low && (sameList (highTable P) high && (sameList (witnessITable P) i && sameList (witnessJTable P) j))
+right (searched P T n d s w l) =
+    eqb (windowsOf (length P) (length T)) n && (eqb (duels P T) d && (sameList (survivors P T) s &&
+    (eqb (sweepCost P T) w && (sameList (positions P T) l && sameList (occurrences P T) l))))
+
+pub allRight : List Example → Bool
+allRight [] = true
+allRight (e ∷ es) = right e && allRight es
+
+-- a list of samples that are not negative
+abbrev up : List ℕ → List ℤ
+up = map pos
+
+abbrev P₀ : List ℤ
+P₀ = up (4 ∷ 9 ∷ 6 ∷ 6 ∷ [])
+
+abbrev ∅ : ℕ
+∅ = 65535
+
+pub examples : List Example
+examples =
+    -- a and b
+    tables P₀ (∅ ∷ 0 ∷ 0 ∷ 2 ∷ []) (∅ ∷ ∅ ∷ 1 ∷ 2 ∷ []) (∅ ∷ 0 ∷ 0 ∷ ∅ ∷ []) (∅ ∷ 1 ∷ 1 ∷ ∅ ∷ []) ∷
+    -- c
+    searched P₀ (up (5 ∷ 8 ∷ 6 ∷ 6 ∷ 9 ∷ 7 ∷ 7 ∷ 2 ∷ 4 ∷ 3 ∷ 3 ∷ [])) 8 5 (0 ∷ 3 ∷ 7 ∷ []) 12 (0 ∷ 3 ∷ 7 ∷ []) ∷
+    -- d
+    searched P₀ (up (5 ∷ 5 ∷ 5 ∷ 5 ∷ 5 ∷ [])) 2 1 [] 0 [] ∷
+    -- e
+    searched P₀ (up (1 ∷ 2 ∷ 3 ∷ 4 ∷ 5 ∷ [])) 2 1 (1 ∷ []) 3 [] ∷
+    -- f
+    searched (up (7 ∷ [])) (up (3 ∷ 3 ∷ [])) 2 0 (0 ∷ 1 ∷ []) 0 (0 ∷ 1 ∷ []) ∷
+    -- g
+    searched P₀ (up (1 ∷ 2 ∷ 3 ∷ [])) 0 0 [] 0 [] ∷
+    -- h
+    searched P₀ (up (4 ∷ 9 ∷ 7 ∷ 6 ∷ [])) 1 0 (0 ∷ []) 4 [] ∷
+    -- i
+    searched (up (1 ∷ 2 ∷ 3 ∷ [])) (up (1 ∷ 2 ∷ 3 ∷ 4 ∷ 5 ∷ [])) 3 0 (0 ∷ 1 ∷ 2 ∷ []) 4 (0 ∷ 1 ∷ 2 ∷ []) ∷
+    -- j
+    searched (negsuc 2147483647 ∷ pos 2147483647 ∷ []) (pos 2147483647 ∷ negsuc 2147483647 ∷ pos 0 ∷ []) 2 0 (0 ∷ 1 ∷ []) 2 (1 ∷ []) ∷
+    -- a level run
+    tables (up (6 ∷ 6 ∷ 6 ∷ [])) (∅ ∷ 0 ∷ 1 ∷ []) (∅ ∷ 0 ∷ 1 ∷ []) (∅ ∷ ∅ ∷ ∅ ∷ []) (∅ ∷ ∅ ∷ ∅ ∷ []) ∷
+    []
+
+pub examples-come-out : allRight examples ≡ true
+unfolding allRight right examples sameList entry windowsOf each those lowest orElse rel allBelow isIso nearer nearest lowOf highOf lowTable highTable matches sameSpot against thenHigh testOf passes cost failedAt firstFail neighbourAt witnessI witnessJ witnessITable witnessJTable fallen duel byWitness meets after arrive arriveAll entrants duelled duels survivors onTest tests sweepOne sweepAll testsOf sweptBy sweepCost positions occurrences
+examples-come-out = refl

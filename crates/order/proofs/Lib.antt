@@ -1,0 +1,4 @@
+-- The laws about the definitions of specs/, in the order of the argument.
+pub mod Tests
+pub mod Orders
+pub mod Examples

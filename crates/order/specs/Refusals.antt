@@ -1,0 +1,111 @@
+-- "Refusals": the table of numbers and places, and for each call the first of its conditions that holds.
+use Prim.Native.Nat.{ℕ, _*_, _-_}
+use mathlib.Core.List.{List}
+use mathlib.Core.Bool.{Bool, true, false, not, _||_}
+use lib.Dec.{ltb, eqb}
+use lib.IntN.{ℤ}
+use lib.ListN.{length, getD}
+use Rattle.order.specs.declared.refusal.Table.{Table}
+use Rattle.order.specs.declared.refusal.Table.the-variants.{Low, High, WitnessI, WitnessJ}
+use Rattle.order.specs.declared.refusal.Refusal.{Refusal}
+use Rattle.order.specs.declared.refusal.Refusal.the-variants.{EmptyPattern, LongPattern, ShortTable, LongTrace, ShortSurvivors, ShortPositions, ForeignEntry, ShortRecording, WrongMark, WrongDistance, LongDistance, ShortSamples, LongInput}
+use Rattle.order.specs.Sizes.{Spot, none, place, entry, lowest, patternLimit, traceLimit, windowsOf}
+use Rattle.order.specs.Neighbours.{lowOf, highOf}
+use Rattle.order.specs.Witnesses.{witnessI, witnessJ}
+use Rattle.order.specs.Recordings.{distanceBack, sampleCount, marked}
+
+abbrev pub tableNumber : Table → ℕ
+tableNumber Low = 1
+tableNumber High = 2
+tableNumber WitnessI = 3
+tableNumber WitnessJ = 4
+
+abbrev pub numberOf : Refusal → ℕ
+numberOf EmptyPattern = 1
+numberOf (LongPattern m) = 2
+numberOf (ShortTable t) = 3
+numberOf (LongTrace n) = 4
+numberOf (ShortSurvivors n) = 5
+numberOf (ShortPositions n) = 6
+numberOf (ForeignEntry k) = 7
+numberOf (ShortRecording l) = 8
+numberOf (WrongMark p) = 9
+numberOf (WrongDistance p) = 10
+numberOf (LongDistance p) = 11
+numberOf (ShortSamples n) = 12
+numberOf LongInput = 13
+
+abbrev pub placeOf : Refusal → ℕ
+placeOf EmptyPattern = 0
+placeOf (LongPattern m) = m
+placeOf (ShortTable t) = tableNumber t
+placeOf (LongTrace n) = n
+placeOf (ShortSurvivors n) = n
+placeOf (ShortPositions n) = n
+placeOf (ForeignEntry k) = k
+placeOf (ShortRecording l) = l
+placeOf (WrongMark p) = p
+placeOf (WrongDistance p) = p
+placeOf (LongDistance p) = p
+placeOf (ShortSamples n) = n
+placeOf LongInput = 16384
+
+-- what the conditions of a call come to
+pub data Verdict : Type 0 where
+  accepted : Verdict
+  refused : Refusal → Verdict
+
+-- refused where the condition holds, otherwise as what follows says
+abbrev pub refuse : Bool → Refusal → Verdict → Verdict
+refuse true r next = refused r
+refuse false r next = next
+
+-- 1 and 2, on the pattern's length
+unfoldable pub patternVerdict : ℕ → Verdict → Verdict
+patternVerdict m next = refuse (eqb m 0) EmptyPattern (refuse (ltb patternLimit m) (LongPattern m) next)
+
+-- 3, on the lengths of the witness tables, and of all four
+unfoldable pub witnessesVerdict : ℕ → ℕ → ℕ → Verdict → Verdict
+witnessesVerdict m wi wj next = refuse (ltb wi m) (ShortTable WitnessI) (refuse (ltb wj m) (ShortTable WitnessJ) next)
+
+unfoldable pub tablesVerdict : ℕ → ℕ → ℕ → ℕ → ℕ → Verdict → Verdict
+tablesVerdict m low high wi wj next =
+    refuse (ltb low m) (ShortTable Low) (refuse (ltb high m) (ShortTable High) (witnessesVerdict m wi wj next))
+
+-- preparation: 1 to 3
+unfoldable pub prepareVerdict : ℕ → ℕ → ℕ → ℕ → ℕ → Verdict
+prepareVerdict m low high wi wj = patternVerdict m (tablesVerdict m low high wi wj accepted)
+
+-- the call on two windows: 1 to 3, on the witness tables
+unfoldable pub agreeVerdict : ℕ → ℕ → ℕ → Verdict
+agreeVerdict m wi wj = patternVerdict m (witnessesVerdict m wi wj accepted)
+
+-- an entry of one of the four tables is not what preparation writes there
+unfoldable pub foreignAt : List ℤ → List ℕ → List ℕ → List ℕ → List ℕ → ℕ → Bool
+foreignAt P low high wi wj k =
+    not (eqb (getD low k 0) (entry (lowOf P k))) || (not (eqb (getD high k 0) (entry (highOf P k))) ||
+    (not (eqb (getD wi k 0) (entry (witnessI P k))) || not (eqb (getD wj k 0) (entry (witnessJ P k)))))
+
+-- 7, at the lowest such entry below m
+unfoldable pub ownVerdict : Spot → Verdict
+ownVerdict none = accepted
+ownVerdict (place k) = refused (ForeignEntry k)
+
+-- search: 1 to 7
+unfoldable pub searchVerdict : List ℤ → List ℕ → List ℕ → List ℕ → List ℕ → List ℤ → ℕ → ℕ → Verdict
+searchVerdict P low high wi wj T survivors positions =
+    patternVerdict (length P)
+    (tablesVerdict (length P) (length low) (length high) (length wi) (length wj)
+    (refuse (ltb traceLimit (length T)) (LongTrace (length T))
+    (refuse (ltb survivors (windowsOf (length P) (length T))) (ShortSurvivors (windowsOf (length P) (length T)))
+    (refuse (ltb positions (windowsOf (length P) (length T))) (ShortPositions (windowsOf (length P) (length T)))
+    (ownVerdict (lowest (foreignAt P low high wi wj) (length P)))))))
+
+-- reading: 8 to 12
+unfoldable pub readVerdict : List ℕ → ℕ → Verdict
+readVerdict bs room =
+    refuse (ltb (length bs) 12) (ShortRecording (length bs))
+    (refuse (not (marked bs)) (WrongMark (length bs - 4))
+    (refuse (not (eqb (distanceBack bs) (4 * sampleCount bs))) (WrongDistance (length bs - 12))
+    (refuse (ltb (length bs - 12) (distanceBack bs)) (LongDistance (length bs - 12))
+    (refuse (ltb room (sampleCount bs)) (ShortSamples (sampleCount bs)) accepted))))

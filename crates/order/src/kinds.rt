@@ -1,0 +1,28 @@
+// A window's start, the distance between two windows and a place in the pattern are all small numbers. Each has a type of
+// its own, so that one given for another does not compile. Follows docs/RULES.md, "Sizes".
+
+ghost use mathlib.Core.Path.{_≡_};
+ghost use Rattle.order.specs.Agree.{distance};
+
+// Where a window starts in the trace.
+pub struct Window(pub usize);
+
+// How far apart two windows start.
+pub struct Offset(pub usize);
+
+// A place in the pattern, counted from 0.
+pub struct Place(pub usize);
+
+impl Offset {
+    // The distance of two windows, whichever starts first.
+    pub fn between(x: Window, y: Window) -> Offset
+        ensures { λ r. ⌜ r .0 ≡ distance (x .0) (y .0) ⌝ }
+    {
+        let a = x.0;
+        let b = y.0;
+        if a <= b {
+            return Offset(b - a);
+        }
+        Offset(a - b)
+    }
+}

@@ -1,0 +1,26 @@
+// The words that every crate of the library shares: how two samples compare, the three kinds of number that look alike,
+// the limits, and the refusals. The rules themselves are definitions, in specs/.
+//
+// Follows docs/RULES.md, "Sizes", "Relation" and "Refusals". Each function takes a handful of steps and assumes nothing.
+
+mod kinds;
+mod limits;
+mod refusal;
+mod relation;
+mod steps;
+
+pub use kinds::Offset;
+pub use kinds::Place;
+pub use kinds::Window;
+pub use limits::NONE;
+pub use limits::PATTERN_LIMIT;
+pub use limits::TRACE_LIMIT;
+pub use limits::UNUSED;
+pub use refusal::Refusal;
+pub use refusal::Table;
+pub use relation::Relation;
+pub use relation::compare;
+pub use relation::same;
+pub use steps::Counts;
+pub use steps::Meeting;
+pub use steps::Tested;

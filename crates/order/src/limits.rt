@@ -1,0 +1,13 @@
+// The sizes that the rules fix. Follows docs/RULES.md, "Sizes".
+
+// The longest pattern, in samples.
+pub const PATTERN_LIMIT: usize = 1024;
+
+// The longest trace, in samples.
+pub const TRACE_LIMIT: usize = 65536;
+
+// A table entry that names no place.
+pub const NONE: u16 = 65535;
+
+// An entry of the survivors or positions buffer that holds no window.
+pub const UNUSED: u32 = 4294967295;

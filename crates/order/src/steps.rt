@@ -1,0 +1,30 @@
+// What one step of a search comes to, and what a whole search counts: the words that the rules of specs/ and the code of
+// the search share. Follows docs/RULES.md, "Test of a place", "Duels", "Sweep" and "Counts".
+
+// What the test of one place comes to: the comparisons it spent and, where it failed, the neighbour that it failed at.
+pub enum Tested {
+    Passed(u32),
+    Failed(u32, usize),
+}
+
+// What becomes of the older and the newer of two windows when the newer looks at the older.
+pub enum Meeting {
+    Agree,
+    OlderFalls,
+    NewerFalls,
+    BothFall,
+}
+
+// What an accepted search counts.
+pub struct Counts {
+    // N: the windows of the trace.
+    pub windows: u32,
+    // D: the duels fought.
+    pub duels: u32,
+    // S: the windows that survived them.
+    pub survivors: u32,
+    // W: the comparisons that the sweep spent.
+    pub sweep: u32,
+    // R: the positions listed.
+    pub found: u32,
+}
