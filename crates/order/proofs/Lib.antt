@@ -2,3 +2,8 @@
 pub mod Tests
 pub mod Orders
 pub mod Examples
+pub mod Lists
+pub mod Equivalences
+pub mod Isomorphisms
+pub mod Nearest
+pub mod PlaceTests

@@ -1,0 +1,93 @@
+"""Every refusal: number, condition and place stand here and nowhere else.
+
+Each function raises Refused when its condition holds. The order in which a
+call tries them is the order of the lines in that call (calls, recording,
+report).
+"""
+
+from .facts import INPUT_MAX, PATTERN_MAX, TRACE_MAX
+
+
+class Refused(Exception):
+    """A call turned down: the refusal's number and its place."""
+
+    MEANING = {
+        1: "the pattern is empty",
+        2: "the pattern is too long",
+        3: "a table is too short",
+        4: "the trace is too long",
+        5: "the survivors buffer is too short",
+        6: "the positions buffer is too short",
+        7: "the tables are not the pattern's",
+        8: "too short to hold a trailer",
+        9: "the mark is wrong",
+        10: "distance and count do not fit together",
+        11: "the distance leads before the first byte",
+        12: "the sample buffer is too short",
+        13: "the input is too long",
+    }
+
+    def __init__(self, number, place):
+        super().__init__(f"refusal {number} place {place}: {self.MEANING[number]}")
+        self.number = number
+        self.place = place
+
+
+def pattern_length(m):
+    if m == 0:
+        raise Refused(1, 0)
+    if m > PATTERN_MAX:
+        raise Refused(2, m)
+
+
+def table_lengths(m, tables, first=1):
+    """The tables given are numbered from `first` on."""
+    for number, table in enumerate(tables, first):
+        if len(table) < m:
+            raise Refused(3, number)
+
+
+def trace_length(n):
+    if n > TRACE_MAX:
+        raise Refused(4, n)
+
+
+def list_lengths(count, survivors, positions):
+    if len(survivors) < count:
+        raise Refused(5, count)
+    if len(positions) < count:
+        raise Refused(6, count)
+
+
+def table_entries(m, given, fresh):
+    for entry in range(m):
+        if any(g[entry] != f[entry] for g, f in zip(given, fresh)):
+            raise Refused(7, entry)
+
+
+def recording_length(length, trailer):
+    if length < trailer:
+        raise Refused(8, length)
+
+
+def recording_mark(length, right):
+    if not right:
+        raise Refused(9, length - 4)
+
+
+def recording_distance(distance, count, start):
+    """`start` is the byte place of the trailer. Whole numbers: no wrapping."""
+    if distance != 4 * count:
+        raise Refused(10, start)
+    if distance > start:
+        raise Refused(11, start)
+
+
+def sample_room(room, count):
+    if room < count:
+        raise Refused(12, count)
+
+
+def input_length(length):
+    if length > INPUT_MAX:
+        raise Refused(13, INPUT_MAX)

@@ -1,0 +1,109 @@
+"""The stream of cases: its bytes, its lines, its spread."""
+
+import unittest
+from collections import Counter
+
+from same_order import generate, stream
+from same_order.facts import NONE, UNUSED
+
+KIND_BYTES = {"prepare": 1, "search": 2, "agree": 3, "read": 4, "report": 5}
+
+
+class Bytes(unittest.TestCase):
+    def test_by_hand(self):
+        cases = [stream.Prepare([1, -2], [1, 2, 3, 4]),
+                 stream.Search([300], [1, 1, 1, 1], [7] * 6, 6, 9, [(4, 2, 513)]),
+                 stream.Agree(2, [NONE], [], 1, 258),
+                 stream.Read(b"ab", 3), stream.Report(b"", 5)]
+        data = b"".join((
+            b"\1" b"\2\0\0\0\1\1\xfe" b"\1\0\2\0\3\0\4\0",
+            b"\2" b"\1\0\0\0\4\x2c\1\0\0" b"\1" b"\1\0\1\0\1\0\1\0" b"\1\4\2\0\1\2"
+            b"\6\0\0\0\0\7\0\0\0" b"\6\0\0\0\x09\0\0\0",
+            b"\3" b"\2\0\0\0" b"\1\0\xff\xff" b"\0\0" b"\1\0\0\0" b"\2\1\0\0",
+            b"\4" b"\2\0\0\0ab" b"\3\0\0\0", b"\5" b"\0\0\0\0" b"\5\0\0\0", b"\0"))
+        self.assertEqual(b"".join(case.encode() for case in cases) + stream.END, data)
+        self.assertEqual(stream.decode(data), cases)
+
+    def test_written_cases_read_back_within_the_limits(self):
+        for kind, number in KIND_BYTES.items():
+            cases = list(generate.cases(kind, 1500, 5))
+            data = b"".join(case.encode() for case in cases)
+            self.assertEqual(stream.decode(data + stream.END), cases)
+            for case in cases:
+                self.assertIs(type(case), stream.KINDS[number])
+                self.limits(case)
+
+    def limits(self, case):
+        if isinstance(case, (stream.Prepare, stream.Search)):
+            self.assertLessEqual(max(len(case.pattern), *case.lengths), 1100)
+        if isinstance(case, stream.Search):
+            self.assertLessEqual(max(len(case.trace), case.survivors, case.positions), 65600)
+            self.assertTrue(all(1 <= t <= 4 and e < 1100 for t, e, _ in case.damages))
+        if isinstance(case, stream.Agree):
+            self.assertLessEqual(max(len(case.witness_i), len(case.witness_j)), 1100)
+        if isinstance(case, (stream.Read, stream.Report)):
+            self.assertLessEqual(len(case.data), 17000)
+            self.assertLessEqual(case.room, 2100 if isinstance(case, stream.Read) else 40000)
+
+
+class Lines(unittest.TestCase):
+    def test_by_hand(self):
+        p, t = generate.P, generate.T
+        for case, lines in (
+                (stream.Prepare(p, [5, 4, 6, 4]),
+                 "prepare 0 0\nlow 65535 0 0 2 g1\nhigh 65535 65535 1 2\n"
+                 "wi 65535 0 0 65535 g2\nwj 65535 1 1 65535\n"),
+                (stream.Prepare(p, [4, 0, 6, 4]), "prepare 3 2\nlow g4\nhigh\nwi g6\nwj g4\n"),
+                (stream.Search(p, [4] * 4, t, 10, 8),
+                 "search 0 0 8 5 3 12 3\nsurvivors 0 3 7 u5 g2\npositions 0 3 7 u5\n"),
+                (stream.Search(p, [4] * 4, t, 10, 8, [(3, 2, 9)]),
+                 "search 7 2\nsurvivors g10\npositions g8\n"),
+                (stream.Search([0] * 1025, [1100] * 4, [], 0, 0),
+                 "search 2 1025\nsurvivors\npositions\n"),
+                (stream.Agree(2, [NONE, 0], [NONE, 1], 4, 5), "agree 0 0\n"),
+                (stream.Agree(2, [NONE, 0], [NONE, 1], 4, 6), "agree 0 1\n"),
+                (stream.Agree(UNUSED, [], [], 4, 6), "agree 2 4294967295\n"),
+                (stream.Read(b"xx\xff\xff\xff\xff\4\0\0\0\1\0\0\0KREC", 3),
+                 "read 0 0 1 2\nsamples -1 g2\n"),
+                (stream.Read(b"x", 3), "read 8 1\nsamples g3\n"),
+                (stream.Report(b"x", 24), "report 24\ntrace refusal 8 place 1\n"),
+                (stream.Report(b"x", 23), "report 24\nkept\n")):
+            self.assertEqual(case.expected(), lines)
+
+    def test_disagreement_with_brute_force_is_an_error(self):
+        for long in (1, 400):
+            with self.assertRaises(AssertionError):
+                stream.confirm([1, 2], [3, 4, 4] * long, [0, 1])
+
+
+class Spread(unittest.TestCase):
+    def heads(self, kind, count, take=2):
+        lines = "".join(c.expected() for c in generate.cases(kind, count, 11)).split("\n")
+        return Counter(tuple(line.split()[:take]) for line in lines if line.startswith(kind))
+
+    def test_every_refusal_comes_up(self):
+        for kind, numbers in (("prepare", (0, 1, 2, 3)), ("search", range(8)),
+                              ("agree", (0, 1, 2, 3)), ("read", (0, 8, 9, 10, 11, 12))):
+            found = self.heads(kind, 600)
+            self.assertEqual(set(found), {(kind, str(number)) for number in numbers})
+            self.assertGreater(found[kind, "0"], 300)
+
+    def test_every_word_comes_up(self):
+        text = "".join(case.expected() for case in generate.cases("report", 600, 11))
+        for word in ("windows ", "input refusal 13", "trace refusal 12", "pattern refusal 9",
+                     "search refusal 1", "kept"):
+            self.assertIn("\n" + word, text)
+
+    def test_searches_match_and_strike(self):
+        answers = [case.expected().split("\n")[0].split()[3:]
+                   for case in generate.cases("search", 800, 3)]
+        counts = [tuple(map(int, answer)) for answer in answers if answer]
+        self.assertGreater(sum(c[4] > 0 for c in counts), 200)         # something found
+        self.assertGreater(sum(c[1] > 3 for c in counts), 150)         # several duels
+        self.assertGreater(sum(c[4] < c[2] for c in counts), 100)      # failed in the sweep
+
+    def test_same_seed_same_cases(self):
+        first, again, other = (list(generate.cases("all", 300, s)) for s in (1, 1, 2))
+        self.assertEqual(first, again)
+        self.assertNotEqual(first, other)
+        self.assertEqual({type(case) for case in first}, set(stream.KINDS.values()))
