@@ -7,3 +7,4 @@ pub mod Equivalences
 pub mod Isomorphisms
 pub mod Nearest
 pub mod PlaceTests
+pub mod Witnessing

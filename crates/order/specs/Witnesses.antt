@@ -1,4 +1,4 @@
--- "Witness at offset a": the first place at which the pattern, laid over itself a places on, fails its own tests.
+-- "Witness at an offset": the first place at which the pattern, laid over itself a places on, fails its own tests.
 use Prim.Native.Nat.{ℕ, _-_}
 use mathlib.Core.List.{List}
 use mathlib.Core.Bool.{Bool, true, false, not}
