@@ -8,3 +8,5 @@ pub mod Isomorphisms
 pub mod Nearest
 pub mod PlaceTests
 pub mod Witnessing
+pub mod Meetings
+pub mod Dueling
