@@ -18,7 +18,7 @@ use Rattle.order.specs.Isomorphic.{Iso}
 use Rattle.order.specs.Equivalence.{SelfAgree}
 use Rattle.order.specs.Duels.{meets, Stack, stacked, after, arrive, arriveAll, entrants, duelled, duels, survivors}
 use Rattle.order.proofs.Lists.{passing, passing-append, passing-one, passing-none, passing-top, passing-top-none, reverse-cons, mem-reverse, those-suc, mem-those, length-all}
-use Rattle.order.proofs.Equivalences.{chain}
+use Rattle.order.proofs.Equivalences.{chain-windows}
 use Rattle.order.proofs.Isomorphisms.{iso-inherits}
 use Rattle.order.proofs.Meetings.{occurs, Told, Agrees, meets-fate}
 
@@ -159,12 +159,8 @@ pub rules-fair : (P T : List ℤ) → Fair (meets P T) (occurs P T) (Agrees P)
 rules-fair P T =
     record {
       told = meets-fate P T;
-      along = λ x y z h k a b.
-        subst (SelfAgree Iso P) (sum x y z h k) (chain iso-inherits P (y - x) (z - y) a b)
+      along = λ x y z h k a b. chain-windows iso-inherits P x y z (omega arith) (omega arith) a b
     }
-  where
-    sum : (x y z : ℕ) → x < y → y < z → y - x + (z - y) ≡ z - x
-    sum x y z h k = omega arith
 
 rules-ended : (P T : List ℤ) → After (rules-fair P T) (entrants P T) (windowsOf (length P) (length T)) (duelled P T)
 unfolding duelled entrants

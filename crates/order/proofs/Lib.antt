@@ -10,3 +10,5 @@ pub mod PlaceTests
 pub mod Witnessing
 pub mod Meetings
 pub mod Dueling
+pub mod SweepLaws
+pub mod Whole

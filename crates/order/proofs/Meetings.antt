@@ -7,11 +7,9 @@ use mathlib.Core.Path.{_≡_, refl, sym, _∙_, ap, ap₂, subst}
 use mathlib.Core.List.{List}
 use mathlib.Core.Bool.{Bool, true, false, cond}
 use native.Mathlib.Omega.{arith}
-use lib.Dec.{leb}
 use lib.IntN.{ℤ}
 use lib.ListN.{length, take, drop, length-take, length-drop}
 use lib.Signed.{leZ}
-use borrow.Author.Tests.{leb-true, leb-false}
 use Rattle.order.specs.declared.steps.Meeting.{Meeting}
 use Rattle.order.specs.declared.steps.Meeting.the-variants.{Agree, OlderFalls, NewerFalls, BothFall}
 use Rattle.order.specs.Sizes.{Spot, none, place, at, window}
@@ -19,12 +17,12 @@ use Rattle.order.specs.Relations.{rel, alike}
 use Rattle.order.specs.Isomorphic.{Iso, isIso}
 use Rattle.order.specs.Equivalence.{SelfAgree}
 use Rattle.order.specs.Witnesses.{witnessI, witnessJ}
+use Rattle.order.specs.Agree.{agree}
 use Rattle.order.specs.Duels.{fallen, duel, byWitness, meets}
 use Rattle.order.proofs.Tests.{clash, must-fail}
 use Rattle.order.proofs.Orders.{alike-same, alike-refl, same-tests-alike}
-use Rattle.order.proofs.Equivalences.{far-apart}
-use Rattle.order.proofs.Isomorphisms.{iso-inherits, at-part, computed-iso}
-use Rattle.order.proofs.Witnessing.{Witnessed, none-agree, witness-is, none-together}
+use Rattle.order.proofs.Isomorphisms.{at-part, computed-iso}
+use Rattle.order.proofs.Witnessing.{Witnessed, none-agree, witness-is, none-together, agree-self}
 
 -- whether window x is isomorphic with the pattern
 abbrev pub occurs : List ℤ → List ℤ → ℕ → Bool
@@ -105,8 +103,8 @@ module _ (P T : List ℤ) (x y : ℕ) (h : x < y) where
 
   pub meets-fate : Told (occurs P T) (Agrees P) x y (meets P T x y)
   unfolding meets
-  meets-fate = go (leb (length P) (y - x)) refl
+  meets-fate = go (agree P x y) refl
     where
-      go : (t : Bool) → leb (length P) (y - x) ≡ t → Fate P T x y (cond t Agree (byWitness P T y (y - x) (witnessI P (y - x)) (witnessJ P (y - x))))
-      go true e = far-apart iso-inherits P (y - x) (leb-true (length P) (y - x) e)
+      go : (t : Bool) → agree P x y ≡ t → Fate P T x y (cond t Agree (byWitness P T y (y - x) (witnessI P (y - x)) (witnessJ P (y - x))))
+      go true e = agree-self P x y e
       go false e = witness-fate (witnessJ P (y - x)) refl
