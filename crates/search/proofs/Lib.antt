@@ -1,0 +1,2 @@
+pub mod MeetingByTable
+pub mod StackLaws

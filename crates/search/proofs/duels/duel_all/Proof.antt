@@ -1,0 +1,226 @@
+-- `duel_all` meets its contract: the survivors buffer is the rules' stack, window by window and look by look.
+-- Assumes nothing.
+use Prim.Native.Nat.{_<_, _≤_, _-_, _+_}
+use mathlib.Core.Path.{_≡_, refl, sym, _∙_, ap, subst}
+use mathlib.Core.Logic.{⊎-elim}
+use native.Mathlib.Omega.{arith}
+use denote.Ref.{now}
+use lib.ListN.{length, getD, set}
+use borrow.Author.Tests.{eqb-false}
+use Rattle.search.proofs.StackLaws.{Looking, Settled, Standing, at-first, looking, kept-below, settle-empty, settle-agree, settle-newer, settle-both, look-again, dropped-next, pushed-next, all-arrived, settled-as, few, inside}
+use borrow.Author.Needs.{needs}
+use Rattle.search.proofs.duels.duel_all.Statement.{statement}
+use Rattle.search.proofs.duels.duel_all.Tie as tie
+use Rattle.search.proofs.duels.duel_all.Reads as reads
+use Rattle.search.proofs.duels.duel_all.Lts as lts
+use Rattle.search.proofs.duels.meet.Reads as meet-reads
+use Rattle.search.proofs.duels.wide32.Reads as wide32-reads
+
+abbrev Inv-loop : tie.InvT-loop
+Inv-loop pattern witness-i witness-j trace windows survivors kept₀ fought₀ y arriving kept fought =
+    Looking pattern trace survivors arriving kept₀ fought₀ kept fought
+
+abbrev μ-loop : tie.MeasureT-loop
+μ-loop pattern witness-i witness-j trace windows survivors kept₀ fought₀ y arriving kept fought = kept
+
+abbrev Inv-windows : tie.InvT-windows
+Inv-windows pattern witness-i witness-j trace windows survivors₀ kept₀ fought₀ y₀ survivors kept fought y =
+    Standing pattern trace windows survivors₀ survivors kept fought y
+
+abbrev μ-windows : tie.MeasureT-windows
+μ-windows pattern witness-i witness-j trace windows survivors₀ kept₀ fought₀ y₀ survivors kept fought y = windows - y
+
+-- the windows of the trace are few
+few-windows : (c : tie.Start Inv-loop μ-loop Inv-windows μ-windows) → c .args .windows ≤ 65537
+few-windows c = few (length (now (c .args .pattern))) (length (now (c .args .trace))) (c .args .windows) (c .pre .number) (c .pre .trace)
+
+windows-holds : tie.Need-windows-holds Inv-loop μ-loop Inv-windows μ-windows
+windows-holds c = at-first _ _ _ _
+
+add-y : tie.Need-add-y Inv-loop μ-loop Inv-windows μ-windows
+add-y c = search needs
+
+loop-holds : tie.Need-loop-holds Inv-loop μ-loop Inv-windows μ-windows
+loop-holds c = looking (c .before .windows .inv)
+
+sub-wide32 : tie.Need-sub-wide32 Inv-loop μ-loop Inv-windows μ-windows
+sub-wide32 c = search needs
+
+mul-wide32 : tie.Need-mul-wide32 Inv-loop μ-loop Inv-windows μ-windows
+mul-wide32 c = search needs
+
+slice-read-wide32 : tie.Need-slice-read-wide32 Inv-loop μ-loop Inv-windows μ-windows
+slice-read-wide32 c = search needs
+
+wide32-requires : tie.Need-wide32-requires Inv-loop μ-loop Inv-windows μ-windows
+wide32-requires c κs = search needs
+
+meet-requires : tie.Need-meet-requires Inv-loop μ-loop Inv-windows μ-windows
+meet-requires c κs =
+    let l = c .before .before .before in
+    let w = l .before .before in
+    let s = w .before .before .before .before in
+    let f = l .loop .inv .fewer in
+    let x = c .wide32 .ensures in
+    let below = kept-below (w .windows .inv) (l .loop .kept - 1) (omega arith) in
+    record {
+      own = s .pre .own;
+      later = omega arith;
+      inside = inside (length (now (s .args .pattern))) (length (now (s .args .trace))) (s .args .windows) (w .windows .y) (s .pre .number) (l .before .windows-test .taken)
+    }
+
+enum-told : tie.Need-enum-told Inv-loop μ-loop Inv-windows μ-windows
+enum-told c = search needs
+
+enum-told-2 : tie.Need-enum-told-2 Inv-loop μ-loop Inv-windows μ-windows
+enum-told-2 c = search needs
+
+sub-kept : tie.Need-sub-kept Inv-loop μ-loop Inv-windows μ-windows
+sub-kept c = search needs
+
+add-fought : tie.Need-add-fought Inv-loop μ-loop Inv-windows μ-windows
+add-fought c = omega (arith, few-windows (c .before .before .before .before .before .before .before .before .before .before .before .before))
+
+loop-less : tie.Need-loop-less Inv-loop μ-loop Inv-windows μ-windows
+loop-less c = search needs
+
+loop-again : tie.Need-loop-again Inv-loop μ-loop Inv-windows μ-windows
+loop-again c =
+    look-again (c .before .before .before .before .before .before .loop .inv) (c .before .before .before .before .before .if1 .left) (c .before .before .before .wide32 .ensures) (sym (c .before .before .meet .ensures) ∙ c .enum-told2 .given .1)
+
+enum-told-3 : tie.Need-enum-told-3 Inv-loop μ-loop Inv-windows μ-windows
+enum-told-3 c = search needs
+
+add-fought-2 : tie.Need-add-fought-2 Inv-loop μ-loop Inv-windows μ-windows
+add-fought-2 c = omega (arith, few-windows (c .before .before .before .before .before .before .before .before .before .before .before .before))
+
+enum-told-4 : tie.Need-enum-told-4 Inv-loop μ-loop Inv-windows μ-windows
+enum-told-4 c = search needs
+
+sub-kept-2 : tie.Need-sub-kept-2 Inv-loop μ-loop Inv-windows μ-windows
+sub-kept-2 c = search needs
+
+add-fought-3 : tie.Need-add-fought-3 Inv-loop μ-loop Inv-windows μ-windows
+add-fought-3 c = omega (arith, few-windows (c .before .before .before .before .before .before .before .before .before .before .before .before))
+
+enum-told-5 : tie.Need-enum-told-5 Inv-loop μ-loop Inv-windows μ-windows
+enum-told-5 c = search needs
+
+enum-told-6 : tie.Need-enum-told-6 Inv-loop μ-loop Inv-windows μ-windows
+enum-told-6 c = search needs
+
+-- where the breaks meet, the arrival has settled
+settled : (c : tie.Joined1 Inv-loop μ-loop Inv-windows μ-windows) →
+    Settled (now (c .before .before .before .before .before .before .before .args .pattern)) (now (c .before .before .before .before .before .before .before .args .trace)) (c .before .before .before .windows .survivors) (c .before .before .before .windows .y) (c .before .before .before .windows .kept) (c .before .before .before .windows .fought)
+        (c .if1 .kept) (c .if1 .fought) (c .if1 .end)
+settled c =
+    let i = c .before .loop .inv in
+    ⊎-elim
+    (λ w. settled-as (w .1) (w .2) (w .3) (settle-empty i (w .0 .taken)))
+    (⊎-elim
+    (λ w. settled-as (w .6) (w .7) (w .8) (settle-agree i (w .0 .left) (w .2 .ensures) (sym (w .3 .ensures) ∙ w .5 .given .1)))
+    (⊎-elim
+    (λ w. settled-as (w .6) (w .7) (w .8) (settle-newer i (w .0 .left) (w .2 .ensures) (sym (w .3 .ensures) ∙ w .5 .given .1)))
+    (λ w. settled-as (w .6) (w .7) (w .8) (settle-both i (w .0 .left) (w .2 .ensures) (sym (w .3 .ensures) ∙ w .5 .given .1)))))
+    (c .if1 .came)
+
+windows-less : tie.Need-windows-less Inv-loop μ-loop Inv-windows μ-windows
+windows-less c = search needs
+
+windows-again : tie.Need-windows-again Inv-loop μ-loop Inv-windows μ-windows
+windows-again c =
+    dropped-next (c .before .before .before .before .before .windows .inv) (c .before .before .before .before .windows-test .taken) (rw (c .enum-told6 .given .1) at (settled (c .before .before)))
+
+-- the entry that the window goes to
+room : (c : tie.After-enum-told5 Inv-loop μ-loop Inv-windows μ-windows) → c .before .before .if1 .kept < length (c .before .before .before .before .before .windows .survivors)
+room c =
+    let s = c .before .before .before .before .before .before .before .before .before in
+    let t = settled (c .before .before) in
+    let f = t .fewer in
+    let h = c .before .before .before .before .windows-test .taken in
+    let i = c .before .before .before .before .before .windows .inv in
+    let n = i .count in
+    let g = i .long in
+    let r = s .pre .room in
+    omega arith
+
+cast-survivors : tie.Need-cast-survivors Inv-loop μ-loop Inv-windows μ-windows
+cast-survivors c = omega (arith, few-windows (c .before .before .before .before .before .before .before .before .before))
+
+mul-survivors : tie.Need-mul-survivors Inv-loop μ-loop Inv-windows μ-windows
+mul-survivors c =
+    let s = c .before .before .before .before .before .before .before .before .before .before in
+    let t = settled (c .before .before .before) in
+    let f = t .fewer in
+    let i = c .before .before .before .before .before .before .windows .inv in
+    let n = i .count in
+    let w = i .within in
+    let k = few-windows s in
+    omega arith
+
+slice-write-survivors : tie.Need-slice-write-survivors Inv-loop μ-loop Inv-windows μ-windows
+slice-write-survivors c = room (c .before)
+
+add-kept : tie.Need-add-kept Inv-loop μ-loop Inv-windows μ-windows
+add-kept c =
+    let s = c .before .before .before .before .before .before .before .before .before .before in
+    let t = settled (c .before .before .before) in
+    let f = t .fewer in
+    let i = c .before .before .before .before .before .before .windows .inv in
+    let n = i .count in
+    let w = i .within in
+    let k = few-windows s in
+    omega arith
+
+windows-less-2 : tie.Need-windows-less-2 Inv-loop μ-loop Inv-windows μ-windows
+windows-less-2 c = search needs
+
+windows-again-2 : tie.Need-windows-again-2 Inv-loop μ-loop Inv-windows μ-windows
+windows-again-2 c =
+    pushed-next (c .before .before .before .before .before .before .windows .inv) (c .before .before .before .before .before .windows-test .taken) (c .before .before .before .before .before .before .before .before .before .before .pre .room) (rw (c .before .enum-told5 .given .1) at (settled (c .before .before .before)))
+
+same-length : tie.Need-same-length Inv-loop μ-loop Inv-windows μ-windows
+same-length c = c .before .windows .inv .long
+
+returns : tie.Need-returns Inv-loop μ-loop Inv-windows μ-windows
+returns c = all-arrived (c .before .windows .inv) (c .windows-test .left) (c .before .before .before .before .before .pre .number)
+
+pub duel-all-spec : {M : Type 1} → statement M
+duel-all-spec =
+    tie.close
+    (tie.spec
+    Inv-loop
+    μ-loop
+    Inv-windows
+    μ-windows
+    windows-holds
+    add-y
+    loop-holds
+    sub-wide32
+    mul-wide32
+    slice-read-wide32
+    wide32-requires
+    meet-requires
+    enum-told
+    enum-told-2
+    sub-kept
+    add-fought
+    loop-less
+    loop-again
+    enum-told-3
+    add-fought-2
+    enum-told-4
+    sub-kept-2
+    add-fought-3
+    enum-told-5
+    enum-told-6
+    windows-less
+    windows-again
+    cast-survivors
+    mul-survivors
+    slice-write-survivors
+    add-kept
+    windows-less-2
+    windows-again-2
+    same-length
+    returns)

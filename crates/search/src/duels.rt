@@ -1,0 +1,139 @@
+// The duels: every window of the trace arrives in order and duels with the top of a stack of kept windows until the two
+// agree or it falls. What the stack holds at the end are the survivors.
+//
+// Follows docs/RULES.md, "Duels" (Jargalsaikhan 2022, section 3, counted from zero). Each duel drops a window, so N windows
+// fight at most N duels, of one comparison each. The stack is the survivors buffer itself. Callers hand over the pattern's own
+// tables and a buffer with room for every window.
+
+use order::Meeting;
+use order::NONE;
+use order::Offset;
+use order::Place;
+use order::Relation;
+use order::Window;
+
+ghost use mathlib.Core.Path.{_≡_};
+ghost use Prim.Native.Nat.{ℕ, _+_, _<_, _≤_};
+ghost use lib.ListN.{length, drop};
+ghost use Rattle.order.specs.Sizes.{at};
+ghost use Rattle.order.specs.Relations.{rel};
+ghost use Rattle.order.specs.Duels.{duel as duelOf, meets};
+ghost use Rattle.search.specs.Inside.{Duelable, Meetable, Duels};
+ghost use Rattle.search.specs.Stacks.{DuelsOf};
+
+// Whether an arriving window ends on the stack.
+enum Arrival {
+    Pushed,
+    Dropped,
+}
+
+// What the duels leave: how many windows are kept, and how many duels were fought.
+pub(crate) struct Duelled {
+    pub kept: usize,
+    pub fought: u32,
+}
+
+// How sample i of a list compares with sample j.
+fn compare_at(v: &[i32], i: usize, j: usize) -> Relation
+    requires { ⌜ (i < length (now v)) × (j < length (now v)) ⌝ }
+    ensures { λ r. ⌜ r ≡ rel (at (now (v .entry)) i) (at (now (v .entry)) j) ⌝ }
+{
+    order::compare(v[i], v[j])
+}
+
+// The duel of window y with the window a before it, by the witness (i, j). The one comparison of the trace is told against
+// the pattern's at the witness and at its offset.
+fn duel(pattern: &[i32], trace: &[i32], y: Window, a: Offset, i: Place, j: Place) -> Meeting
+    requires { ⌜ Duelable (now pattern) (now trace) (y .0) (a .0) (i .0) (j .0) ⌝ }
+    ensures { λ r. ⌜ r ≡ duelOf (now (pattern .entry)) (now (trace .entry)) (y .0) (a .0) (i .0) (j .0) ⌝ }
+{
+    let y = y.0;
+    let a = a.0;
+    let i = i.0;
+    let j = j.0;
+    let seen = compare_at(trace, y + i, y + j);
+    let newer = order::same(seen, compare_at(pattern, i, j));
+    let older = order::same(seen, compare_at(pattern, a + i, a + j));
+    if newer {
+        if older {
+            return Meeting::Agree;
+        }
+        return Meeting::OlderFalls;
+    }
+    if older {
+        return Meeting::NewerFalls;
+    }
+    Meeting::BothFall
+}
+
+fn wide(x: u16) -> usize
+    ensures { λ r. ⌜ r ≡ x ⌝ }
+{
+    x as usize
+}
+
+fn wide32(x: u32) -> usize
+    ensures { λ r. ⌜ r ≡ x ⌝ }
+{
+    x as usize
+}
+
+// What becomes of window x when the later window y looks at it.
+fn meet(pattern: &[i32], witness_i: &[u16], witness_j: &[u16], trace: &[i32], x: Window, y: Window) -> Meeting
+    requires { ⌜ Meetable (now pattern) (now «witness_i») (now «witness_j») (now trace) (x .0) (y .0) ⌝ }
+    ensures { λ r. ⌜ r ≡ meets (now (pattern .entry)) (now (trace .entry)) (x .0) (y .0) ⌝ }
+{
+    let apart = Offset::between(x, y);
+    let a = apart.0;
+    if pattern.len() <= a {
+        return Meeting::Agree;
+    }
+    let i = witness_i[a];
+    if i == NONE {
+        return Meeting::Agree;
+    }
+    let j = witness_j[a];
+    duel(pattern, trace, y, apart, Place(wide(i)), Place(wide(j)))
+}
+
+// All windows below `windows` arrive.
+pub(crate) fn duel_all(pattern: &[i32], witness_i: &[u16], witness_j: &[u16], trace: &[i32], windows: usize, survivors: &mut [u32]) -> Duelled
+    requires { ⌜ Duels (now pattern) (now «witness_i») (now «witness_j») (now trace) windows (now survivors) ⌝ }
+    ensures { λ r. ⌜ DuelsOf (now (pattern .entry)) (now (trace .entry)) windows (now (survivors .entry)) (now (survivors .exit)) (r .kept) (r .fought) ⌝ }
+{
+    let mut kept: usize = 0;
+    let mut fought: u32 = 0;
+    let mut y: usize = 0;
+    'windows: while y < windows {
+        let arriving = y;
+        y += 1;
+        let end = loop {
+            if kept == 0 {
+                break Arrival::Pushed;
+            }
+            let x = wide32(survivors[kept - 1]);
+            match meet(pattern, witness_i, witness_j, trace, Window(x), Window(arriving)) {
+                Meeting::Agree => break Arrival::Pushed,
+                Meeting::OlderFalls => {
+                    kept -= 1;
+                    fought += 1;
+                }
+                Meeting::NewerFalls => {
+                    fought += 1;
+                    break Arrival::Dropped;
+                }
+                Meeting::BothFall => {
+                    kept -= 1;
+                    fought += 1;
+                    break Arrival::Dropped;
+                }
+            }
+        };
+        let Arrival::Pushed = end else {
+            continue 'windows;
+        };
+        survivors[kept] = arriving as u32;
+        kept += 1;
+    }
+    Duelled { kept, fought }
+}
