@@ -1,0 +1,7 @@
+-- The laws that the functions' proofs cite.
+pub mod Verdicts
+pub mod Entries
+pub mod NearestSoFar
+pub mod Filling
+pub mod Comparing
+pub mod TestByEntries

@@ -1,0 +1,3 @@
+-- What the calls of this crate answer and promise, over the rules of the crate `order`.
+pub mod Answers
+pub mod Asked

@@ -1,0 +1,12 @@
+// Same-order search over a prepared pattern: the pattern's four tables, and whether two windows may stand beside each other.
+//
+// Follows docs/RULES.md, "Neighbours", "Test of a place", "Witness", "Agree" and "Refusals" (Jargalsaikhan 2022 for duels and
+// witnesses). A call that is refused has stored nothing: sizes are looked at first, then the work is done.
+
+mod answers;
+mod checks;
+mod neighbours;
+mod place_test;
+
+pub use answers::Agreement;
+pub use answers::Prepared;
