@@ -1,5 +1,6 @@
 -- The laws that the functions' proofs cite.
 pub mod Verdicts
+pub mod Promised
 pub mod Entries
 pub mod NearestSoFar
 pub mod Filling

@@ -7,6 +7,8 @@ mod answers;
 mod checks;
 mod neighbours;
 mod place_test;
+mod windows;
 
 pub use answers::Agreement;
 pub use answers::Prepared;
+pub use windows::agree;
