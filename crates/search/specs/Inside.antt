@@ -3,10 +3,11 @@ use Prim.Native.Nat.{ℕ, _+_, _≤_, _<_}
 use mathlib.Core.Path.{_≡_}
 use mathlib.Core.List.{List}
 use lib.IntN.{ℤ}
-use lib.ListN.{length, getD}
+use lib.ListN.{length, getD, take}
 use Rattle.order.specs.Sizes.{entry, patternLimit, traceLimit, windowsOf}
 use Rattle.order.specs.Neighbours.{lowOf, highOf}
 use Rattle.order.specs.Witnesses.{witnessI, witnessJ}
+use Rattle.order.specs.Duels.{survivors}
 
 -- a duel of window y with the one a before it, by the witness (i, j)
 pub record Duelable (P T : List ℤ) (y a i j : ℕ) : Type 0 where
@@ -35,3 +36,27 @@ pub record Duels (P : List ℤ) (wi wj : List ℕ) (T : List ℤ) (windows : ℕ
   pub trace : length T ≤ traceLimit
   pub number : windows ≡ windowsOf (length P) (length T)
   pub room : windows ≤ length before
+
+-- the neighbour tables are the pattern's own below its length
+pub record OwnNeighbours (P : List ℤ) (low high : List ℕ) : Type 0 where
+  pub limit : length P ≤ patternLimit
+  pub low-long : length P ≤ length low
+  pub high-long : length P ≤ length high
+  pub low-own : (j : ℕ) → j < length P → getD low j 0 ≡ entry (lowOf P j)
+  pub high-own : (j : ℕ) → j < length P → getD high j 0 ≡ entry (highOf P j)
+
+-- survivor x, from a sample of it on, with so much spent before
+pub record Sweepable (P : List ℤ) (low high : List ℕ) (T : List ℤ) (x from before : ℕ) : Type 0 where
+  pub own : OwnNeighbours P low high
+  pub trace : length T ≤ traceLimit
+  pub inside : x + length P ≤ length T
+  pub begun : x ≤ from
+  pub small : before ≤ 1000000
+
+-- the survivors, in the first entries of their buffer, and a buffer with room for them
+pub record Sweeps (P : List ℤ) (low high : List ℕ) (T : List ℤ) (buffer : List ℕ) (kept : ℕ) (before : List ℕ) : Type 0 where
+  pub own : OwnNeighbours P low high
+  pub trace : length T ≤ traceLimit
+  pub held : take kept buffer ≡ survivors P T
+  pub kept-long : kept ≤ length buffer
+  pub room : kept ≤ length before

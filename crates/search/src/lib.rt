@@ -1,1 +1,16 @@
+// Same-order search over a prepared pattern: the pattern's four tables, and whether two windows may stand beside each other.
+//
+// Follows docs/RULES.md, "Neighbours", "Test of a place", "Witness", "Agree" and "Refusals" (Jargalsaikhan 2022 for duels and
+// witnesses). A call that is refused has stored nothing: sizes are looked at first, then the work is done.
+
+mod answers;
+mod checks;
 mod duels;
+mod neighbours;
+mod place_test;
+mod sweep;
+mod windows;
+
+pub use answers::Agreement;
+pub use answers::Prepared;
+pub use windows::agree;

@@ -1,0 +1,93 @@
+-- Shows: what one machine comparison of two samples tells of their relation, also where they are samples of a list from some
+-- start on.
+-- Assumes nothing.
+use mathlib.Core.Path.{_≡_, refl, sym, _∙_, ap, ap₂}
+use mathlib.Core.List.{List}
+use mathlib.Core.Bool.{Bool, true, false, not, cond}
+use Prim.Native.Nat.{ℕ, _+_, _≤_}
+use native.Mathlib.Omega.{arith}
+use lib.Dec.{leb, eqb}
+use lib.IntN.{ℤ, pos, negsuc}
+use lib.ListN.{drop}
+use lib.Seq.{getD-drop}
+use lib.Signed.{leZ, ltZ}
+use mir.Syntax.{w32}
+use mir.Val.{toZ, ofZ, SFits}
+use mir.Facts.{toZ-ofZ}
+use borrow.Author.Tests.{leb-true, eqb-true, eqb-false}
+use Rattle.order.specs.declared.relation.Relation.the-variants.{Less, Equal, Greater}
+use Rattle.order.specs.Sizes.{at}
+use Rattle.order.specs.Relations.{rel, alike}
+use Rattle.order.proofs.Tests.{clash, must-fail}
+use Rattle.order.proofs.Orders.{ltZ-not-leZ, leZ-total, leZ-refl, alike-same}
+
+-- ---- less and greater
+
+less-cases : (t s : Bool) → (t ≡ false → s ≡ true) → not s ≡ alike (cond t (cond s Equal Less) Greater) Less
+less-cases true true f = refl
+less-cases true false f = refl
+less-cases false true f = refl
+less-cases false false f = clash (f refl) refl
+
+less-told : (a b : ℤ) → ltZ a b ≡ alike (rel a b) Less
+unfolding rel
+less-told a b = ltZ-not-leZ a b ∙ less-cases (leZ a b) (leZ b a) (leZ-total a b)
+
+greater-cases : (t s : Bool) → not t ≡ alike (cond t (cond s Equal Less) Greater) Greater
+greater-cases true true = refl
+greater-cases true false = refl
+greater-cases false s = refl
+
+greater-told : (a b : ℤ) → ltZ b a ≡ alike (rel a b) Greater
+unfolding rel
+greater-told a b = ltZ-not-leZ b a ∙ greater-cases (leZ a b) (leZ b a)
+
+-- ---- equal
+
+leb-antisym : (a b : ℕ) → leb a b ≡ true → leb b a ≡ true → a ≡ b
+leb-antisym a b p q = let h : a ≤ b = leb-true a b p in let k : b ≤ a = leb-true b a q in omega arith
+
+leZ-antisym : (a b : ℤ) → leZ a b ≡ true → leZ b a ≡ true → a ≡ b
+leZ-antisym (pos a) (pos b) p q = ap pos (leb-antisym a b p q)
+leZ-antisym (pos a) (negsuc b) p q = clash p refl
+leZ-antisym (negsuc a) (pos b) p q = clash q refl
+leZ-antisym (negsuc a) (negsuc b) p q = ap negsuc (leb-antisym a b q p)
+
+equal-same : (a b : ℤ) → rel a b ≡ Equal → a ≡ b
+unfolding rel
+equal-same a b e = go (leZ a b) (leZ b a) refl refl e
+  where
+    go : (t s : Bool) → leZ a b ≡ t → leZ b a ≡ s → cond t (cond s Equal Less) Greater ≡ Equal → a ≡ b
+    go true true p q e = leZ-antisym a b p q
+    go true false p q e = cc
+    go false s p q e = cc
+
+same-equal : (a : ℤ) → rel a a ≡ Equal
+unfolding rel
+same-equal a = rw (leZ-refl a) refl
+
+-- two samples are equal exactly if their bits are
+equal-told : (a b : ℤ) → SFits w32 a → SFits w32 b → eqb (ofZ w32 a) (ofZ w32 b) ≡ alike (rel a b) Equal
+equal-told a b fa fb = go (eqb (ofZ w32 a) (ofZ w32 b)) refl
+  where
+    go : (t : Bool) → eqb (ofZ w32 a) (ofZ w32 b) ≡ t → t ≡ alike (rel a b) Equal
+    go true e =
+        let same : a ≡ b = sym (toZ-ofZ fa) ∙ ap (toZ w32) (eqb-true (ofZ w32 a) (ofZ w32 b) e) ∙ toZ-ofZ fb in
+        rw (same, same-equal b) refl
+    go false e = sym (must-fail (alike (rel a b) Equal) (λ t. eqb-false (ofZ w32 a) (ofZ w32 b) e (ap (ofZ w32) (equal-same a b (alike-same (rel a b) Equal t)))))
+
+-- ---- places j and i of the list v from start on
+
+module _ (v : List ℤ) (start j i : ℕ) (fj : SFits w32 (at v (start + j))) (fi : SFits w32 (at v (start + i))) where
+  pub less-there : ltZ (toZ w32 (ofZ w32 (at v (start + j)))) (toZ w32 (ofZ w32 (at v (start + i)))) ≡ alike (rel (at (drop start v) j) (at (drop start v) i)) Less
+  less-there =
+      rw (getD-drop start v j (pos 0), getD-drop start v i (pos 0))
+      (ap₂ ltZ (toZ-ofZ fj) (toZ-ofZ fi) ∙ less-told (at v (start + j)) (at v (start + i)))
+
+  pub greater-there : ltZ (toZ w32 (ofZ w32 (at v (start + i)))) (toZ w32 (ofZ w32 (at v (start + j)))) ≡ alike (rel (at (drop start v) j) (at (drop start v) i)) Greater
+  greater-there =
+      rw (getD-drop start v j (pos 0), getD-drop start v i (pos 0))
+      (ap₂ ltZ (toZ-ofZ fi) (toZ-ofZ fj) ∙ greater-told (at v (start + j)) (at v (start + i)))
+
+  pub equal-there : eqb (ofZ w32 (at v (start + j))) (ofZ w32 (at v (start + i))) ≡ alike (rel (at (drop start v) j) (at (drop start v) i)) Equal
+  equal-there = rw (getD-drop start v j (pos 0), getD-drop start v i (pos 0)) (equal-told _ _ fj fi)

@@ -1,0 +1,193 @@
+-- Shows: what each step of the sweep's code leaves is what the rules' sweep leaves.
+-- Assumes nothing.
+use Prim.Native.Nat.{ℕ, zero, suc, _+_, _-_, _*_, _≤_, _<_, max}
+use mathlib.Core.Path.{_≡_, refl, sym, _∙_, ap, ap₂, subst}
+use mathlib.Core.List.{List, [], _∷_, _++_, append-nil, append-assoc, List·Memᴰ, List·Memᴰ·head, List·Memᴰ·tail}
+use mathlib.Core.Bool.{Bool, true, false, cond}
+use native.Mathlib.Omega.{arith}
+use native.Mathlib.Numerals.{add-one}
+use lib.IntN.{ℤ}
+use lib.ListN.{length, getD, take, drop, set, length-set, length-take, drop-of-length-le}
+use lib.Seq.{take-suc, drop-cons, take-suc-set, take-set-le, drop-set-lt, getD-take, length-take-le}
+use Rattle.order.specs.declared.steps.Tested.{Tested}
+use Rattle.order.specs.declared.steps.Tested.the-variants.{Passed, Failed}
+use Rattle.order.specs.Sizes.{windowsOf}
+use Rattle.order.specs.PlaceTest.{testOf, cost}
+use Rattle.order.specs.Duels.{survivors}
+use Rattle.order.specs.Sweeping.{Swept, swept, onTest, tests, sweepOne, sweepAll, testsOf, sweptBy, sweepCost, positions}
+use Rattle.order.proofs.Lists.{windowsOf-as}
+use Rattle.order.proofs.PlaceTests.{test-cost}
+use Rattle.order.proofs.Dueling.{survivors-below}
+use Rattle.search.specs.Sweeps.{SweptOne, SweepOf}
+
+-- ---- the tests of one survivor
+
+-- the tests from `from` on have come to `reach`
+pub record Sweeping (P T : List ℤ) (x from before reach spent : ℕ) : Type 0 where
+  pub same : (l : List ℕ) → tests cost (testsOf P T) x (x + length P - from) from before l ≡ tests cost (testsOf P T) x (x + length P - reach) reach spent l
+  pub onward : from ≤ reach
+  pub until : reach ≤ max from (x + length P)
+  pub bound : spent ≤ before + 2 * (reach - from)
+
+pub begin : (P T : List ℤ) (x from before : ℕ) → Sweeping P T x from before from before
+begin P T x from before = record { same = λ l. refl; onward = omega arith; until = omega arith; bound = omega arith }
+
+-- one test more
+a-test : (P T : List ℤ) (x e w f : ℕ) (l : List ℕ) (t : Tested) → testOf P (drop x T) (e - x) ≡ t → x + length P - e ≡ suc f
+    → tests cost (testsOf P T) x (x + length P - e) e w l ≡ onTest t e (w + cost t) l (tests cost (testsOf P T) x f (e + 1) (w + cost t) l)
+unfolding tests testsOf
+a-test P T x e w f l t h k = rw (k, h) refl
+
+module _ {P T : List ℤ} {x from before e w : ℕ} (i : Sweeping P T x from before e w) (h : e < x + length P) where
+  left : x + length P - e ≡ suc (x + length P - (e + 1))
+  left = omega arith
+
+  cheap : (t : Tested) → testOf P (drop x T) (e - x) ≡ t → cost t ≤ 2
+  cheap t q = subst (λ (r : Tested). cost r ≤ 2) q (test-cost P (drop x T) (e - x))
+
+  pub passed-on : (c : ℕ) → testOf P (drop x T) (e - x) ≡ Passed c → Sweeping P T x from before (e + 1) (w + c)
+  unfolding onTest cost
+  passed-on c q =
+      record {
+        same = λ l. i .same l ∙ a-test P T x e w (x + length P - (e + 1)) l (Passed c) q left;
+        onward = let o = i .onward in omega arith;
+        until = let u = i .until in omega arith;
+        bound = let b = i .bound in let o = i .onward in let k : c ≤ 2 = cheap (Passed c) q in omega arith
+      }
+
+  pub ended-there : (c n : ℕ) → testOf P (drop x T) (e - x) ≡ Failed c n → SweptOne P T x from before e (w + c) false
+  unfolding onTest cost
+  ended-there c n q =
+      record {
+        result = λ l. i .same l ∙ a-test P T x e w (x + length P - (e + 1)) l (Failed c n) q left ∙ ap (swept e (w + c)) (sym (append-nil l));
+        onward = i .onward;
+        until = i .until;
+        bound = let b = i .bound in let k : c ≤ 2 = cheap (Failed c n) q in omega arith
+      }
+
+  -- a test costs at most 2
+  pub cheap-pass : (c : ℕ) → testOf P (drop x T) (e - x) ≡ Passed c → c ≤ 2
+  unfolding cost
+  cheap-pass c q = cheap (Passed c) q
+
+  pub cheap-fail : (c n : ℕ) → testOf P (drop x T) (e - x) ≡ Failed c n → c ≤ 2
+  unfolding cost
+  cheap-fail c n q = cheap (Failed c n) q
+
+pub came-through : {P T : List ℤ} {x from before e w : ℕ} → Sweeping P T x from before e w → x + length P ≤ e → SweptOne P T x from before e w true
+unfolding tests
+came-through {P} {x = x} {e = e} i h =
+    let none : x + length P - e ≡ 0 = omega arith in
+    record {
+      result = λ l. i .same l ∙ rw none refl;
+      onward = i .onward;
+      until = i .until;
+      bound = let b = i .bound in omega arith
+    }
+
+-- ---- all survivors
+
+-- the first k survivors have been swept
+pub record SweptTo (P T : List ℤ) (kept : ℕ) (before after : List ℕ) (k reach spent found : ℕ) : Type 0 where
+  pub within : k ≤ kept
+  pub few : found ≤ k
+  pub reached : reach ≤ length T
+  pub bound : spent ≤ 2 * (reach + k)
+  pub long : length after ≡ length before
+  pub beyond : drop kept after ≡ drop kept before
+  pub state : sweepAll cost (testsOf P T) (length P) (drop k (survivors P T)) (swept reach spent (take found after)) ≡ sweptBy cost P T
+
+pub none-swept : (P T : List ℤ) (kept : ℕ) (before : List ℕ) → SweptTo P T kept before before 0 0 0 0
+unfolding sweptBy
+none-swept P T kept before =
+    record {
+      within = omega arith; few = omega arith; reached = omega arith; bound = omega arith; long = refl; beyond = refl; state = refl
+    }
+
+-- listing a window or not
+listed : (l : List ℕ) (found x : ℕ) (whole : Bool) → found < length l
+    → take (cond whole (found + 1) found) (cond whole (set l found x) l) ≡ take found l ++ cond whole (x ∷ []) []
+listed l found x true h = ap (λ n. take n (set l found x)) (add-one found) ∙ take-suc-set l found x h
+listed l found x false h = sym (append-nil (take found l))
+
+store-beyond : (l : List ℕ) (kept found x : ℕ) (whole : Bool) → found < kept → drop kept (cond whole (set l found x) l) ≡ drop kept l
+store-beyond l kept found x true h = drop-set-lt kept l found x h
+store-beyond l kept found x false h = refl
+
+store-length : (l : List ℕ) (found x : ℕ) (whole : Bool) → length (cond whole (set l found x) l) ≡ length l
+store-length l found x true = length-set l found x
+store-length l found x false = refl
+
+store-few : (found k : ℕ) (whole : Bool) → found ≤ k → cond whole (found + 1) found ≤ k + 1
+store-few found k true h = omega arith
+store-few found k false h = omega arith
+
+one-more : (P T : List ℤ) (x reach spent e w : ℕ) (whole : Bool) (l : List ℕ) → SweptOne P T x (max reach x) spent e w whole
+    → sweepOne cost (testsOf P T) (length P) x (swept reach spent l) ≡ swept e w (l ++ cond whole (x ∷ []) [])
+unfolding sweepOne
+one-more P T x reach spent e w whole l r = r .result l
+
+module _ {P T : List ℤ} {kept : ℕ} {before after : List ℕ} {k reach spent found x e w : ℕ} {whole : Bool}
+         (i : SweptTo P T kept before after k reach spent found) (h : k < kept) (number : kept ≡ length (survivors P T))
+         (ex : x ≡ getD (survivors P T) k 0) (room : kept ≤ length before) (r : SweptOne P T x (max reach x) spent e w whole) (inside : x + length P ≤ length T) where
+  pub next-swept : SweptTo P T kept before (cond whole (set after found x) after) (k + 1) e w (cond whole (found + 1) found)
+  unfolding sweepAll
+  next-swept =
+      let f = i .few in let g = i .long in
+      let here : k < length (survivors P T) = omega arith in
+      let in-buffer : found < length after = rw g (omega arith) in
+      record {
+        within = omega arith;
+        few = store-few found k whole f;
+        reached = let u = r .until in let b = i .reached in omega arith;
+        bound = let b = i .bound in let c = r .bound in let o = r .onward in omega arith;
+        long = store-length after found x whole ∙ g;
+        beyond = store-beyond after kept found x whole (omega arith) ∙ i .beyond;
+        state =
+          ap₂ (λ xs l. sweepAll cost (testsOf P T) (length P) (drop xs (survivors P T)) (swept e w l)) (add-one k) (listed after found x whole in-buffer) ∙
+          ap (sweepAll cost (testsOf P T) (length P) (drop (suc k) (survivors P T))) (sym (one-more P T x reach spent e w whole (take found after) r)) ∙
+          ap (λ y. sweepAll cost (testsOf P T) (length P) (drop (suc k) (survivors P T)) (sweepOne cost (testsOf P T) (length P) y (swept reach spent (take found after)))) ex ∙
+          ap (λ xs. sweepAll cost (testsOf P T) (length P) xs (swept reach spent (take found after))) (sym (drop-cons (survivors P T) k 0 here)) ∙
+          i .state
+      }
+
+pub all-swept : {P T : List ℤ} {kept : ℕ} {before after : List ℕ} {k reach spent found : ℕ} → SweptTo P T kept before after k reach spent found → kept ≤ k → kept ≡ length (survivors P T)
+    → SweepOf P T kept before after spent found
+unfolding sweepAll sweepCost positions
+all-swept {P} {T} {kept} {before} {after} {k} {reach} {spent} {found} i h number =
+    record {
+      cost-is = ap (λ (s : Swept). s .total) done;
+      listed = ap (λ (s : Swept). s .listed) done;
+      few = let f = i .few in let w = i .within in omega arith;
+      beyond = i .beyond;
+      same-length = i .long
+    }
+  where
+    empty : drop k (survivors P T) ≡ []
+    empty = let short : length (survivors P T) ≤ k = omega arith in drop-of-length-le (survivors P T) short
+    done : swept reach spent (take found after) ≡ sweptBy cost P T
+    done = ap (λ xs. sweepAll cost (testsOf P T) (length P) xs (swept reach spent (take found after))) (sym empty) ∙ i .state
+
+-- ---- the survivors' buffer
+
+pub entry-of : (P T : List ℤ) (kept : ℕ) (buffer : List ℕ) (k : ℕ) → take kept buffer ≡ survivors P T → k < kept → getD buffer k 0 ≡ getD (survivors P T) k 0
+entry-of P T kept buffer k e h = sym (getD-take kept buffer k 0 h) ∙ ap (λ l. getD l k 0) e
+
+pub kept-number : (P T : List ℤ) (kept : ℕ) (buffer : List ℕ) → take kept buffer ≡ survivors P T → kept ≤ length buffer → kept ≡ length (survivors P T)
+kept-number P T kept buffer e h = sym (length-take-le kept buffer h) ∙ ap length e
+
+mem-at : (xs : List ℕ) (k : ℕ) → k < length xs → List·Memᴰ (getD xs k 0) xs
+mem-at [] k h = absurd (omega arith)
+mem-at (x ∷ xs) zero h = List·Memᴰ·head refl
+mem-at (x ∷ xs) (suc k) h = List·Memᴰ·tail (mem-at xs k (omega arith))
+
+pub survivor-inside : (P T : List ℤ) (k : ℕ) → k < length (survivors P T) → getD (survivors P T) k 0 + length P ≤ length T
+survivor-inside P T k h =
+    let b = survivors-below P T (getD (survivors P T) k 0) (mem-at (survivors P T) k h) in
+    let w = windowsOf-as (length P) (length T) in
+    omega arith
+
+-- the same under the code's names
+pub swept-as : {P T : List ℤ} {start from x spent e w : ℕ} {whole : Bool} (reach : ℕ) → start ≡ x → from ≡ max reach start → SweptOne P T start from spent e w whole → SweptOne P T x (max reach x) spent e w whole
+swept-as {P} {T} {start} {spent = spent} {e} {w} {whole} reach p q r =
+    subst (λ (y : ℕ). SweptOne P T y (max reach y) spent e w whole) p (subst (λ (f : ℕ). SweptOne P T start f spent e w whole) q r)

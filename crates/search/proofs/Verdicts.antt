@@ -1,0 +1,105 @@
+-- Shows: a row of conditions is the first part of the row, and then, where that part refuses nothing, the rest; what its
+-- answer tells of the verdict; and what holds of the lengths where all conditions are passed.
+-- Assumes nothing.
+use mathlib.Core.Path.{_≡_, refl}
+use mathlib.Core.Bool.{Bool, true, false}
+use Prim.Native.Nat.{ℕ, zero, suc, _≤_, _<_}
+use native.Mathlib.Omega.{arith}
+use lib.Dec.{ltb, eqb}
+use borrow.Author.Tests.{eqb-false, ltb-false}
+use Rattle.order.specs.declared.refusal.Table.the-variants.{Low, High, WitnessI, WitnessJ}
+use Rattle.order.specs.declared.refusal.Refusal.{Refusal}
+use Rattle.order.specs.declared.refusal.Refusal.the-variants.{EmptyPattern, LongPattern, ShortTable}
+use Rattle.order.specs.Sizes.{patternLimit}
+use Rattle.order.specs.Refusals.{Verdict, accepted, refused, refuse, patternVerdict, witnessesVerdict, tablesVerdict, prepareVerdict, agreeVerdict}
+use Rattle.search.specs.declared.checks.Checked.{Checked}
+use Rattle.search.specs.declared.checks.Checked.the-variants.{Fine, Refused}
+use Rattle.search.specs.Answers.{checkedBy}
+
+-- what refuses with the rest left out refuses with it
+refuse-two : (a b : Bool) (r s why : Refusal) (next : Verdict) →
+    Refused why ≡ checkedBy (refuse a r (refuse b s accepted)) → Refused why ≡ checkedBy (refuse a r (refuse b s next))
+refuse-two true b r s why next e = e
+refuse-two false true r s why next e = e
+refuse-two false false r s why next e = cc
+
+pass-two : (a b : Bool) (r s : Refusal) (next : Verdict) →
+    Fine ≡ checkedBy (refuse a r (refuse b s accepted)) → checkedBy next ≡ checkedBy (refuse a r (refuse b s next))
+pass-two true b r s next e = cc
+pass-two false true r s next e = cc
+pass-two false false r s next e = refl
+
+pub pattern-refused : (m : ℕ) (why : Refusal) (next : Verdict) →
+    Refused why ≡ checkedBy (patternVerdict m accepted) → Refused why ≡ checkedBy (patternVerdict m next)
+unfolding patternVerdict
+pattern-refused m why next e = refuse-two (eqb m 0) (ltb 1024 m) _ _ why next e
+
+pub pattern-fine : (m : ℕ) (next : Verdict) →
+    Fine ≡ checkedBy (patternVerdict m accepted) → checkedBy next ≡ checkedBy (patternVerdict m next)
+unfolding patternVerdict
+pattern-fine m next e = pass-two (eqb m 0) (ltb 1024 m) _ _ next e
+
+-- the verdict behind an answer
+pub fine-accepted : (w : Verdict) → Fine ≡ checkedBy w → w ≡ accepted
+fine-accepted accepted e = refl
+fine-accepted (refused r) e = cc
+
+pub refused-why : (w : Verdict) (why : Refusal) → Refused why ≡ checkedBy w → w ≡ refused why
+refused-why accepted why e = cc
+refused-why (refused r) why e = cc
+
+-- a condition that is passed
+passed : (b : Bool) (r : Refusal) (next : Verdict) → refuse b r next ≡ accepted → (b ≡ false) × (next ≡ accepted)
+passed true r next e = (cc, cc)
+passed false r next e = (refl, e)
+
+pub pattern-passed : (m : ℕ) (next : Verdict) → patternVerdict m next ≡ accepted → (0 < m) × (m ≤ patternLimit) × (next ≡ accepted)
+unfolding patternVerdict
+pattern-passed m next e =
+    let a = passed (eqb m 0) EmptyPattern (refuse (ltb patternLimit m) (LongPattern m) next) e in
+    let b = passed (ltb patternLimit m) (LongPattern m) next (a .1) in
+    let h = eqb-false m 0 (a .0) in
+    let k : m ≤ patternLimit = ltb-false patternLimit m (b .0) in
+    (positive m h, k, b .1)
+  where
+    positive : (m : ℕ) → (m ≡ 0 → ⊥) → 0 < m
+    positive zero f = absurd (f refl)
+    positive (suc m) f = omega arith
+
+pub witnesses-passed : (m wi wj : ℕ) (next : Verdict) → witnessesVerdict m wi wj next ≡ accepted → (m ≤ wi) × (m ≤ wj) × (next ≡ accepted)
+unfolding witnessesVerdict
+witnesses-passed m wi wj next e =
+    let a = passed (ltb wi m) (ShortTable WitnessI) (refuse (ltb wj m) (ShortTable WitnessJ) next) e in
+    let b = passed (ltb wj m) (ShortTable WitnessJ) next (a .1) in
+    (ltb-false wi m (a .0), ltb-false wj m (b .0), b .1)
+
+pub tables-passed : (m low high wi wj : ℕ) (next : Verdict) → tablesVerdict m low high wi wj next ≡ accepted →
+    (m ≤ low) × (m ≤ high) × (m ≤ wi) × (m ≤ wj)
+unfolding tablesVerdict
+tables-passed m low high wi wj next e =
+    let a = passed (ltb low m) (ShortTable Low) (refuse (ltb high m) (ShortTable High) (witnessesVerdict m wi wj next)) e in
+    let b = passed (ltb high m) (ShortTable High) (witnessesVerdict m wi wj next) (a .1) in
+    let c = witnesses-passed m wi wj next (b .1) in
+    (ltb-false low m (a .0), ltb-false high m (b .0), c .0, c .1)
+
+-- lengths that preparation accepts
+pub record Sizes (m low high wi wj : ℕ) : Type 0 where
+  pub some : 0 < m
+  pub limit : m ≤ patternLimit
+  pub low-room : m ≤ low
+  pub high-room : m ≤ high
+  pub witness-i-room : m ≤ wi
+  pub witness-j-room : m ≤ wj
+
+pub prepare-sizes : (m low high wi wj : ℕ) → prepareVerdict m low high wi wj ≡ accepted → Sizes m low high wi wj
+unfolding prepareVerdict
+prepare-sizes m low high wi wj e =
+    let p = pattern-passed m (tablesVerdict m low high wi wj accepted) e in
+    let t = tables-passed m low high wi wj accepted (p .2) in
+    record { some = p .0; limit = p .1; low-room = t .0; high-room = t .1; witness-i-room = t .2; witness-j-room = t .3 }
+
+pub agree-room : (m wi wj : ℕ) → agreeVerdict m wi wj ≡ accepted → m ≤ wi
+unfolding agreeVerdict
+agree-room m wi wj e =
+    let p = pattern-passed m (witnessesVerdict m wi wj accepted) e in
+    witnesses-passed m wi wj accepted (p .2) .0

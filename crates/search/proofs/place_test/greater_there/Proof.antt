@@ -1,0 +1,42 @@
+-- `greater_there` meets its contract: the machine's comparison of two samples tells how they compare.
+-- Assumes nothing.
+use denote.Ref.{now}
+use Rattle.search.proofs.Comparing.{greater-there}
+use borrow.Author.Needs.{needs, sfits-of}
+use Rattle.search.proofs.place_test.greater_there.Statement.{statement}
+use Rattle.search.proofs.place_test.greater_there.Tie as tie
+
+add-result : tie.Need-add-result
+add-result c = search needs
+
+mul-result : tie.Need-mul-result
+mul-result c = search needs
+
+shared-slice-copy-out-result : tie.Need-shared-slice-copy-out-result
+shared-slice-copy-out-result c = search needs
+
+add-result-2 : tie.Need-add-result-2
+add-result-2 c = search needs
+
+mul-result-2 : tie.Need-mul-result-2
+mul-result-2 c = search needs
+
+shared-slice-copy-out-result-2 : tie.Need-shared-slice-copy-out-result-2
+shared-slice-copy-out-result-2 c = search needs
+
+returns : tie.Need-returns
+returns c =
+    let a = c .before .before .args in
+    greater-there (now (a .v)) (a .start) (a .j) (a .i) (sfits-of (c .result2 .given)) (sfits-of (c .before .result .given))
+
+pub greater-there-spec : {M : Type 1} → statement M
+greater-there-spec =
+    tie.close
+    (tie.spec
+    add-result
+    mul-result
+    shared-slice-copy-out-result
+    add-result-2
+    mul-result-2
+    shared-slice-copy-out-result-2
+    returns)

@@ -1,0 +1,45 @@
+-- `agree` meets its contract: the sizes' verdict, and then the table's at the offset of the two starts.
+-- Assumes nothing.
+use Rattle.search.proofs.Verdicts.{fine-accepted, agree-room}
+use Rattle.search.proofs.Promised.{agree-refused, agree-compared}
+use denote.Ref.{now}
+use lib.ListN.{length}
+use Rattle.order.specs.Refusals.{agreeVerdict}
+use borrow.Author.Needs.{needs}
+use Rattle.search.proofs.windows.agree.Statement.{statement}
+use Rattle.search.proofs.windows.agree.Tie as tie
+
+check-agree-requires : tie.Need-check-agree-requires
+check-agree-requires c κs = search needs
+
+enum-known-why : tie.Need-enum-known-why
+enum-known-why c = search needs
+
+enum-told : tie.Need-enum-told
+enum-told c = search needs
+
+between-requires : tie.Need-between-requires
+between-requires c κs = search needs
+
+agree-at-requires : tie.Need-agree-at-requires
+agree-at-requires c κs =
+    let a = c .before .before .before .before .before .before .args in
+    agree-room _ _ _ (fine-accepted (agreeVerdict (a .m) (length (now (a .witness-i))) (length (now (a .witness-j)))) (cc))
+
+returns : tie.Need-returns
+returns c = agree-refused _ _ _ _ _ _ (cc)
+
+returns-2 : tie.Need-returns-2
+returns-2 c = agree-compared _ _ _ _ _ _ _ (cc) (c .before .between .ensures) (c .agree-at .ensures)
+
+pub agree-spec : {M : Type 1} → statement M
+agree-spec =
+    tie.close
+    (tie.spec
+    check-agree-requires
+    enum-known-why
+    enum-told
+    between-requires
+    agree-at-requires
+    returns
+    returns-2)

@@ -1,0 +1,22 @@
+-- What the sweep leaves, of one survivor and of all.
+use Prim.Native.Nat.{ℕ, _+_, _-_, _*_, _≤_, max}
+use mathlib.Core.Path.{_≡_}
+use mathlib.Core.List.{List, [], _∷_, _++_}
+use mathlib.Core.Bool.{Bool, cond}
+use lib.IntN.{ℤ}
+use lib.ListN.{length, take, drop}
+use Rattle.order.specs.PlaceTest.{cost}
+use Rattle.order.specs.Sweeping.{swept, tests, testsOf, sweepCost, positions}
+
+pub record SweptOne (P T : List ℤ) (x from before reach spent : ℕ) (whole : Bool) : Type 0 where
+  pub result : (l : List ℕ) → tests cost (testsOf P T) x (x + length P - from) from before l ≡ swept reach spent (l ++ cond whole (x ∷ []) [])
+  pub onward : from ≤ reach
+  pub until : reach ≤ max from (x + length P)
+  pub bound : spent ≤ before + 2 * (reach - from) + 2
+
+pub record SweepOf (P T : List ℤ) (kept : ℕ) (before after : List ℕ) (spent found : ℕ) : Type 0 where
+  pub cost-is : spent ≡ sweepCost P T
+  pub listed : take found after ≡ positions P T
+  pub few : found ≤ kept
+  pub beyond : drop kept after ≡ drop kept before
+  pub same-length : length after ≡ length before

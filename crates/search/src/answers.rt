@@ -1,0 +1,16 @@
+// What each call answers. Follows docs/RULES.md, "Refusals": specs/Answers.antt gives each case its number and values.
+
+use order::Refusal;
+
+// What preparation answers.
+pub enum Prepared {
+    Done,
+    Refused(Refusal),
+}
+
+// What the call on two windows answers.
+pub enum Agreement {
+    Agree,
+    Differ,
+    Refused(Refusal),
+}

@@ -1,0 +1,107 @@
+// The sweep: the survivors are tested in ascending order, place by place, and none is tested at a sample of the trace that an
+// earlier one has passed. A survivor that passes all its places is listed.
+//
+// Follows docs/RULES.md, "Sweep" (Jargalsaikhan 2022, section 3, counted from zero). E only rises and each survivor fails at
+// most once, so the sweep spends at most 2(n + S) comparisons. Callers hand over the pattern's own tables and its survivors.
+
+use order::Place;
+use order::Tested;
+use order::Window;
+use crate::place_test::test_place;
+
+ghost use mathlib.Core.Path.{_≡_};
+ghost use mathlib.Core.Bool.{cond};
+ghost use Prim.Native.Nat.{ℕ, _+_, _<_, _≤_, max};
+ghost use lib.ListN.{length, drop, set};
+ghost use Rattle.search.specs.Inside.{Sweepable, Sweeps};
+ghost use Rattle.search.specs.Sweeps.{SweptOne, SweepOf};
+
+// Where the tests of one survivor end: E, the comparisons spent so far, and whether all its places passed.
+struct Reached {
+    reach: usize,
+    spent: u32,
+    whole: bool,
+}
+
+// What the sweep leaves: the comparisons spent, and how many windows are listed.
+pub(crate) struct Swept {
+    pub spent: u32,
+    pub found: usize,
+}
+
+fn wide32(x: u32) -> usize
+    ensures { λ r. ⌜ r ≡ x ⌝ }
+{
+    x as usize
+}
+
+fn larger(a: usize, b: usize) -> usize
+    ensures { λ r. ⌜ r ≡ max a b ⌝ }
+{
+    if a < b { b } else { a }
+}
+
+// The tests of survivor x from the sample `from` on.
+fn sweep_one(pattern: &[i32], low: &[u16], high: &[u16], trace: &[i32], x: Window, from: usize, before: u32) -> Reached
+    requires { ⌜ Sweepable (now pattern) (now low) (now high) (now trace) (x .0) from before ⌝ }
+    ensures { λ r. ⌜ SweptOne (now (pattern .entry)) (now (trace .entry)) (x .0) from before (r .reach) (r .spent) (r .whole) ⌝ }
+{
+    let start = x.0;
+    let stop = start + pattern.len();
+    let mut reach = from;
+    let mut spent = before;
+    while reach < stop {
+        let j = reach - start;
+        match test_place(pattern, low[j], high[j], trace, start, Place(j)) {
+            Tested::Passed(cost) => {
+                spent += cost;
+                reach += 1;
+            }
+            Tested::Failed(cost, _) => {
+                return Reached {
+                    reach,
+                    spent: spent + cost,
+                    whole: false,
+                };
+            }
+        }
+    }
+    Reached {
+        reach,
+        spent,
+        whole: true,
+    }
+}
+
+// Lists a window that passed all its places, and answers how many are listed then.
+fn list_one(positions: &mut [u32], found: usize, x: u32, whole: bool) -> usize
+    requires { ⌜ found < length (now positions) ⌝ }
+    ensures { λ r. ⌜ (now (positions .exit) ≡ cond whole (set (now (positions .entry)) found x) (now (positions .entry))) × (r ≡ cond whole (found + 1) found) ⌝ }
+{
+    if whole {
+        positions[found] = x;
+        return found + 1;
+    }
+    found
+}
+
+// All survivors, the first `kept` entries of their buffer.
+pub(crate) fn sweep_all(pattern: &[i32], low: &[u16], high: &[u16], trace: &[i32], survivors: &[u32], kept: usize, positions: &mut [u32]) -> Swept
+    requires { ⌜ Sweeps (now pattern) (now low) (now high) (now trace) (now survivors) kept (now positions) ⌝ }
+    ensures { λ r. ⌜ SweepOf (now (pattern .entry)) (now (trace .entry)) kept (now (positions .entry)) (now (positions .exit)) (r .spent) (r .found) ⌝ }
+{
+    let mut reach: usize = 0;
+    let mut spent: u32 = 0;
+    let mut found: usize = 0;
+    let mut k: usize = 0;
+    while k < kept {
+        let x = survivors[k];
+        let start = wide32(x);
+        let end = sweep_one(pattern, low, high, trace, Window(start), larger(reach, start), spent);
+        reach = end.reach;
+        spent = end.spent;
+        found = list_one(positions, found, x, end.whole);
+        k += 1;
+    }
+    Swept { spent, found }
+}
