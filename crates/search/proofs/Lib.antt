@@ -6,3 +6,5 @@ pub mod NearestSoFar
 pub mod Filling
 pub mod Comparing
 pub mod TestByEntries
+pub mod Offsets
+pub mod OwnTables

@@ -7,8 +7,11 @@ mod answers;
 mod checks;
 mod neighbours;
 mod place_test;
+mod preparation;
 mod windows;
+mod witnesses;
 
 pub use answers::Agreement;
 pub use answers::Prepared;
+pub use preparation::prepare;
 pub use windows::agree;
