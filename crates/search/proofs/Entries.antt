@@ -1,9 +1,9 @@
 -- Shows: a table's entry tells the place that it was made of, where that place is one of a pattern's.
 -- Assumes nothing.
-use mathlib.Core.Path.{_≡_, refl, sym, _∙_, ap}
+use mathlib.Core.Path.{_≡_, refl}
 use Prim.Native.Nat.{ℕ, _≤_, _<_}
 use native.Mathlib.Omega.{arith}
-use Rattle.order.specs.Sizes.{Spot, none, place, entry, patternLimit, noPlace}
+use Rattle.order.specs.Sizes.{Spot, none, place, entry, noPlace}
 
 -- a spot that lies below n, if it is a place
 pub record Below (n : ℕ) (s : Spot) : Type 0 where

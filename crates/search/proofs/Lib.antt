@@ -9,3 +9,5 @@ pub mod TestByEntries
 pub mod MeetingByTable
 pub mod StackLaws
 pub mod SweepSteps
+pub mod Offsets
+pub mod OwnTables

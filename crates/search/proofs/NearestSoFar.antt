@@ -1,16 +1,16 @@
 -- Shows: one more place's part in the search for a place's nearest neighbour, on the entry of the nearest so far.
 -- Assumes nothing.
-use mathlib.Core.Path.{_≡_, refl, sym, _∙_, ap}
+use mathlib.Core.Path.{_≡_, refl, sym, _∙_}
 use mathlib.Core.List.{List}
-use mathlib.Core.Bool.{Bool, true, false, cond}
-use Prim.Native.Nat.{ℕ, zero, suc, _+_, _≤_, _<_}
+use mathlib.Core.Bool.{Bool, true, false}
+use Prim.Native.Nat.{ℕ, _+_, _≤_, _<_}
 use native.Mathlib.Omega.{arith}
 use native.Mathlib.Numerals.{add-one}
 use lib.IntN.{ℤ}
 use Rattle.order.specs.Sizes.{Spot, none, place, at, entry, noPlace}
 use Rattle.order.specs.Neighbours.{nearer, nearest}
-use Rattle.order.proofs.Nearest.{Ordering, Near, Neighbour, nearest-is}
-use Rattle.search.proofs.Entries.{Below, none-below, place-below, entry-none, entry-place, entry-of-place, entry-of-none, entry-below}
+use Rattle.order.proofs.Nearest.{Ordering, Neighbour, nearest-is}
+use Rattle.search.proofs.Entries.{Below, none-below, place-below, entry-none, entry-place, entry-of-place, entry-below}
 
 module _ {le : ℤ → ℤ → Bool} (o : Ordering le) (P : List ℤ) (j : ℕ) where
   -- the nearest of the places below n lies below n

@@ -4,21 +4,25 @@
 use mathlib.Core.Path.{_≡_, refl, sym, _∙_, ap}
 use mathlib.Core.List.{List}
 use mathlib.Core.Bool.{Bool, true, false, _||_}
-use Prim.Native.Nat.{ℕ, _+_, _-_}
+use Prim.Native.Nat.{ℕ, _-_}
 use native.Mathlib.Omega.{arith}
 use lib.Dec.{leb, eqb}
 use lib.IntN.{ℤ}
 use lib.ListN.{length, getD}
 use borrow.Author.Tests.{eqb-true, eqb-false, eq-eqb, ne-eqb}
 use Rattle.order.specs.Sizes.{noPlace}
+use Rattle.order.specs.Neighbours.{lowTable, highTable}
+use Rattle.order.specs.Witnesses.{witnessITable, witnessJTable}
 use Rattle.order.specs.Agree.{distance, agreeByTable}
 use Rattle.order.specs.Refusals.{Verdict, accepted, refused, prepareVerdict, agreeVerdict}
 use Rattle.order.specs.declared.refusal.Refusal.{Refusal}
 use Rattle.search.specs.declared.checks.Checked.the-variants.{Fine, Refused}
 use Rattle.search.specs.declared.answers.Prepared.{Prepared}
+use Rattle.search.specs.declared.answers.Prepared.the-variants.{Done, Refused as NotPrepared}
 use Rattle.search.specs.declared.answers.Agreement.{Agreement}
 use Rattle.search.specs.declared.answers.Agreement.the-variants.{Refused as NotCompared}
-use Rattle.search.specs.Answers.{checkedBy, verdictNumber, verdictPlace, agreementNumber, agreementPlace, saysAgree, agreementOf, agreementBy}
+use Rattle.search.specs.Answers.{checkedBy, verdictNumber, verdictPlace, afterVerdict, preparedBy, agreementNumber, agreementPlace, saysAgree, agreementOf, agreementBy}
+use Rattle.search.specs.Asked.{TablesWritten}
 use Rattle.search.specs.Promises.{PreparePromise, AgreePromise}
 use Rattle.search.proofs.Verdicts.{fine-accepted, refused-why}
 
@@ -79,3 +83,54 @@ agree-compared m a wi wj x y r e d h =
 pub agree-only-answer : (m : ℕ) (wi wj : List ℕ) (x y : ℕ) (r s : Agreement) →
     AgreePromise m wi wj x y r → AgreePromise m wi wj x y s → r ≡ s
 agree-only-answer m wi wj x y r s p q = p .answer ∙ sym (q .answer)
+
+-- ---- preparation
+
+module _ (P : List ℤ) (low high wi wj : List ℕ) where
+  abbrev verdict : Verdict
+  verdict = prepareVerdict (length P) (length low) (length high) (length wi) (length wj)
+
+  pub prepare-refused : (why : Refusal) → Refused why ≡ checkedBy (prepareVerdict (length P) (length low) (length high) (length wi) (length wj)) →
+      PreparePromise P low high wi wj (NotPrepared why) low high wi wj
+  prepare-refused why e =
+      record {
+        number = ap verdictNumber (sym v);
+        place = ap verdictPlace (sym v);
+        answer = ap preparedBy (sym v);
+        low-after = ap (λ w. afterVerdict w (lowTable P) low) (sym v);
+        high-after = ap (λ w. afterVerdict w (highTable P) high) (sym v);
+        witness-i-after = ap (λ w. afterVerdict w (witnessITable P) wi) (sym v);
+        witness-j-after = ap (λ w. afterVerdict w (witnessJTable P) wj) (sym v);
+      }
+    where
+      v : verdict ≡ refused why
+      v = refused-why verdict why e
+
+  pub prepare-done : {low' high' wi' wj' : List ℕ} →
+      Fine ≡ checkedBy (prepareVerdict (length P) (length low) (length high) (length wi) (length wj)) →
+      TablesWritten P low high wi wj low' high' wi' wj' →
+      PreparePromise P low high wi wj Done low' high' wi' wj'
+  prepare-done e t =
+      record {
+        number = ap verdictNumber (sym v);
+        place = ap verdictPlace (sym v);
+        answer = ap preparedBy (sym v);
+        low-after = t .low-written ∙ ap (λ w. afterVerdict w (lowTable P) low) (sym v);
+        high-after = t .high-written ∙ ap (λ w. afterVerdict w (highTable P) high) (sym v);
+        witness-i-after = t .witness-i-written ∙ ap (λ w. afterVerdict w (witnessITable P) wi) (sym v);
+        witness-j-after = t .witness-j-written ∙ ap (λ w. afterVerdict w (witnessJTable P) wj) (sym v);
+      }
+    where
+      v : verdict ≡ accepted
+      v = fine-accepted verdict e
+
+  pub prepare-only-answer : (r s : Prepared) (low₁ high₁ wi₁ wj₁ low₂ high₂ wi₂ wj₂ : List ℕ) →
+      PreparePromise P low high wi wj r low₁ high₁ wi₁ wj₁ → PreparePromise P low high wi wj s low₂ high₂ wi₂ wj₂ →
+      (r ≡ s) × (low₁ ≡ low₂) × (high₁ ≡ high₂) × (wi₁ ≡ wi₂) × (wj₁ ≡ wj₂)
+  prepare-only-answer r s low₁ high₁ wi₁ wj₁ low₂ high₂ wi₂ wj₂ p q = (
+    p .answer ∙ sym (q .answer),
+    p .low-after ∙ sym (q .low-after),
+    p .high-after ∙ sym (q .high-after),
+    p .witness-i-after ∙ sym (q .witness-i-after),
+    p .witness-j-after ∙ sym (q .witness-j-after),
+  )

@@ -1,19 +1,17 @@
 -- Shows: the test of a place by its neighbours' entries alone. Where the two entries are one, the pattern's value is equal
 -- there; otherwise it lies strictly above the low neighbour's and strictly below the high one's.
 -- Assumes nothing.
-use mathlib.Core.Path.{_≡_, refl, sym, _∙_, ap, ap₂, subst}
+use mathlib.Core.Path.{_≡_, refl, sym, _∙_, ap, subst}
 use mathlib.Core.List.{List}
 use mathlib.Core.Bool.{Bool, true, false, cond}
 use Prim.Native.Nat.{ℕ, _+_, _≤_, _<_}
 use native.Mathlib.Omega.{arith}
-use lib.Dec.{eqb}
 use lib.IntN.{ℤ}
 use lib.ListN.{length, drop}
 use lib.Signed.{leZ}
 use borrow.Author.Tests.{eq-eqb, ne-eqb}
 use Rattle.order.specs.declared.relation.Relation.{Relation}
 use Rattle.order.specs.declared.relation.Relation.the-variants.{Less, Equal, Greater}
-use Rattle.order.specs.declared.steps.Tested.{Tested}
 use Rattle.order.specs.declared.steps.Tested.the-variants.{Passed, Failed}
 use Rattle.order.specs.Sizes.{Spot, none, place, at, entry, noPlace}
 use Rattle.order.specs.Relations.{rel, alike}
@@ -23,7 +21,7 @@ use Rattle.order.proofs.Tests.{must-fail}
 use Rattle.order.proofs.Nearest.{Near, Neighbour, flipped, low-is, high-is, equal-earlier}
 use Rattle.order.proofs.PlaceTests.{low-earlier, high-earlier}
 use Rattle.search.specs.Asked.{Testable}
-use Rattle.search.proofs.Entries.{Below, entry-none, entry-place, entry-of-place}
+use Rattle.search.proofs.Entries.{entry-none, entry-place, entry-of-place}
 
 -- ---- how place j compares with its neighbours
 

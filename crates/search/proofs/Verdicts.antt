@@ -3,18 +3,17 @@
 -- Assumes nothing.
 use mathlib.Core.Path.{_≡_, refl}
 use mathlib.Core.Bool.{Bool, true, false}
-use Prim.Native.Nat.{ℕ, zero, suc, _≤_, _<_}
-use native.Mathlib.Omega.{arith}
+use Prim.Native.Nat.{ℕ, _≤_}
 use lib.Dec.{ltb, eqb}
-use borrow.Author.Tests.{eqb-false, ltb-false}
+use borrow.Author.Tests.{ltb-false}
 use Rattle.order.specs.declared.refusal.Table.the-variants.{Low, High, WitnessI, WitnessJ}
 use Rattle.order.specs.declared.refusal.Refusal.{Refusal}
 use Rattle.order.specs.declared.refusal.Refusal.the-variants.{EmptyPattern, LongPattern, ShortTable}
 use Rattle.order.specs.Sizes.{patternLimit}
 use Rattle.order.specs.Refusals.{Verdict, accepted, refused, refuse, patternVerdict, witnessesVerdict, tablesVerdict, prepareVerdict, agreeVerdict}
-use Rattle.search.specs.declared.checks.Checked.{Checked}
 use Rattle.search.specs.declared.checks.Checked.the-variants.{Fine, Refused}
 use Rattle.search.specs.Answers.{checkedBy}
+use Rattle.search.specs.Asked.{Room}
 
 -- what refuses with the rest left out refuses with it
 refuse-two : (a b : Bool) (r s why : Refusal) (next : Verdict) →
@@ -53,18 +52,12 @@ passed : (b : Bool) (r : Refusal) (next : Verdict) → refuse b r next ≡ accep
 passed true r next e = (cc, cc)
 passed false r next e = (refl, e)
 
-pub pattern-passed : (m : ℕ) (next : Verdict) → patternVerdict m next ≡ accepted → (0 < m) × (m ≤ patternLimit) × (next ≡ accepted)
+pub pattern-passed : (m : ℕ) (next : Verdict) → patternVerdict m next ≡ accepted → (m ≤ patternLimit) × (next ≡ accepted)
 unfolding patternVerdict
 pattern-passed m next e =
     let a = passed (eqb m 0) EmptyPattern (refuse (ltb patternLimit m) (LongPattern m) next) e in
     let b = passed (ltb patternLimit m) (LongPattern m) next (a .1) in
-    let h = eqb-false m 0 (a .0) in
-    let k : m ≤ patternLimit = ltb-false patternLimit m (b .0) in
-    (positive m h, k, b .1)
-  where
-    positive : (m : ℕ) → (m ≡ 0 → ⊥) → 0 < m
-    positive zero f = absurd (f refl)
-    positive (suc m) f = omega arith
+    (ltb-false patternLimit m (b .0), b .1)
 
 pub witnesses-passed : (m wi wj : ℕ) (next : Verdict) → witnessesVerdict m wi wj next ≡ accepted → (m ≤ wi) × (m ≤ wj) × (next ≡ accepted)
 unfolding witnessesVerdict
@@ -83,23 +76,15 @@ tables-passed m low high wi wj next e =
     (ltb-false low m (a .0), ltb-false high m (b .0), c .0, c .1)
 
 -- lengths that preparation accepts
-pub record Sizes (m low high wi wj : ℕ) : Type 0 where
-  pub some : 0 < m
-  pub limit : m ≤ patternLimit
-  pub low-room : m ≤ low
-  pub high-room : m ≤ high
-  pub witness-i-room : m ≤ wi
-  pub witness-j-room : m ≤ wj
-
-pub prepare-sizes : (m low high wi wj : ℕ) → prepareVerdict m low high wi wj ≡ accepted → Sizes m low high wi wj
+pub prepare-room : (m low high wi wj : ℕ) → prepareVerdict m low high wi wj ≡ accepted → Room m low high wi wj
 unfolding prepareVerdict
-prepare-sizes m low high wi wj e =
+prepare-room m low high wi wj e =
     let p = pattern-passed m (tablesVerdict m low high wi wj accepted) e in
-    let t = tables-passed m low high wi wj accepted (p .2) in
-    record { some = p .0; limit = p .1; low-room = t .0; high-room = t .1; witness-i-room = t .2; witness-j-room = t .3 }
+    let t = tables-passed m low high wi wj accepted (p .1) in
+    record { limit = p .0; low-room = t .0; high-room = t .1; witness-i-room = t .2; witness-j-room = t .3 }
 
 pub agree-room : (m wi wj : ℕ) → agreeVerdict m wi wj ≡ accepted → m ≤ wi
 unfolding agreeVerdict
 agree-room m wi wj e =
     let p = pattern-passed m (witnessesVerdict m wi wj accepted) e in
-    witnesses-passed m wi wj accepted (p .2) .0
+    witnesses-passed m wi wj accepted (p .1) .0

@@ -1,11 +1,13 @@
--- What the functions inside this crate ask of their callers, part by part.
+-- What the functions inside this crate ask of their callers and tell them, part by part.
 use Prim.Native.Nat.{ℕ, _+_, _≤_, _<_}
 use mathlib.Core.Path.{_≡_}
 use mathlib.Core.List.{List}
 use lib.IntN.{ℤ}
-use lib.ListN.{length}
-use Rattle.order.specs.Sizes.{entry, patternLimit}
-use Rattle.order.specs.Neighbours.{lowOf, highOf}
+use lib.ListN.{length, getD, drop}
+use Rattle.order.specs.Sizes.{none, entry, patternLimit}
+use Rattle.order.specs.Neighbours.{lowOf, highOf, lowTable, highTable}
+use Rattle.order.specs.Witnesses.{firstFail, witnessI, witnessJ, witnessITable, witnessJTable}
+use Rattle.order.specs.Written.{over}
 
 -- a test of place j of the pattern P on the list v from start on, by the entries low and high
 pub record Testable (P v : List ℤ) (start j low high : ℕ) : Type 0 where
@@ -14,3 +16,36 @@ pub record Testable (P v : List ℤ) (start j low high : ℕ) : Type 0 where
   pub reach : start + j < length v
   pub low-own : low ≡ entry (lowOf P j)
   pub high-own : high ≡ entry (highOf P j)
+
+-- a pattern of m samples within the limit, and room for its tables
+pub record Room (m low high wi wj : ℕ) : Type 0 where
+  pub limit : m ≤ patternLimit
+  pub low-room : m ≤ low
+  pub high-room : m ≤ high
+  pub witness-i-room : m ≤ wi
+  pub witness-j-room : m ≤ wj
+
+-- the pattern's four tables are written over what the buffers held
+pub record TablesWritten (P : List ℤ) (low high wi wj low' high' wi' wj' : List ℕ) : Type 0 where
+  pub low-written : low' ≡ over (lowTable P) low
+  pub high-written : high' ≡ over (highTable P) high
+  pub witness-i-written : wi' ≡ over (witnessITable P) wi
+  pub witness-j-written : wj' ≡ over (witnessJTable P) wj
+
+-- tables that hold the pattern's own neighbours
+pub record OwnNeighbours (P : List ℤ) (low high : List ℕ) : Type 0 where
+  pub limit : length P ≤ patternLimit
+  pub low-room : length P ≤ length low
+  pub high-room : length P ≤ length high
+  pub low-own : (j : ℕ) → j < length P → getD low j 0 ≡ entry (lowOf P j)
+  pub high-own : (j : ℕ) → j < length P → getD high j 0 ≡ entry (highOf P j)
+
+-- i and j are the entries of offset a
+pub record OwnWitness (P : List ℤ) (a i j : ℕ) : Type 0 where
+  pub neighbour : i ≡ entry (witnessI P a)
+  pub failing : j ≡ entry (witnessJ P a)
+
+-- at offset a the tests of the places below j are known to pass
+pub record KnownBelow (P : List ℤ) (a j : ℕ) : Type 0 where
+  pub inside : a + j ≤ length P
+  pub known : firstFail P (drop a P) j ≡ none

@@ -7,7 +7,7 @@ use lib.ListN.{length}
 use Rattle.order.specs.Neighbours.{lowTable, highTable}
 use Rattle.order.specs.Witnesses.{witnessITable, witnessJTable}
 use Rattle.order.specs.Agree.{agreeByTable}
-use Rattle.order.specs.Refusals.{Verdict, accepted, prepareVerdict, agreeVerdict}
+use Rattle.order.specs.Refusals.{accepted, prepareVerdict, agreeVerdict}
 use Rattle.search.specs.declared.answers.Prepared.{Prepared}
 use Rattle.search.specs.declared.answers.Agreement.{Agreement}
 use Rattle.search.specs.Answers.{verdictNumber, verdictPlace, afterVerdict, preparedNumber, preparedPlace, preparedBy, agreementNumber, agreementPlace, saysAgree, agreementBy}

@@ -9,8 +9,11 @@ mod duels;
 mod neighbours;
 mod place_test;
 mod sweep;
+mod preparation;
 mod windows;
+mod witnesses;
 
 pub use answers::Agreement;
 pub use answers::Prepared;
+pub use preparation::prepare;
 pub use windows::agree;

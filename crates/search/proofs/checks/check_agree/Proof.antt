@@ -1,6 +1,6 @@
 -- `check_agree` meets its contract: the pattern's conditions, and then the witness tables'.
 -- Assumes nothing.
-use mathlib.Core.Path.{sym, _∙_}
+use mathlib.Core.Path.{_∙_}
 use Rattle.order.specs.Refusals.{agreeVerdict}
 use Rattle.search.proofs.Verdicts.{pattern-refused, pattern-fine}
 use borrow.Author.Needs.{needs}

@@ -1,6 +1,6 @@
 -- `check_prepare` meets its contract: the pattern's conditions, and then the tables'.
 -- Assumes nothing.
-use mathlib.Core.Path.{sym, _∙_}
+use mathlib.Core.Path.{_∙_}
 use Rattle.order.specs.Refusals.{prepareVerdict}
 use Rattle.search.proofs.Verdicts.{pattern-refused, pattern-fine}
 use borrow.Author.Needs.{needs}

@@ -1,6 +1,6 @@
 -- `higher` meets its contract: one more place's part in the search for place j's high neighbour, case by case.
 -- Assumes nothing.
-use mathlib.Core.Path.{_≡_, sym, _∙_, ap}
+use mathlib.Core.Path.{sym, _∙_}
 use native.Mathlib.Omega.{arith}
 use borrow.Author.Needs.{needs}
 use Rattle.order.proofs.Nearest.{upward, turned}

@@ -1,6 +1,6 @@
 -- `test_place` meets its contract: each way through the code is one case of the test by the two entries.
 -- Assumes nothing.
-use mathlib.Core.Path.{_≡_, sym, _∙_}
+use mathlib.Core.Path.{sym, _∙_}
 use mathlib.Core.Bool.{true, false}
 use Rattle.search.proofs.TestByEntries.{low-within, high-within, none-tested, equal-tested, high-tested, low-failed, low-tested, both-tested}
 use Rattle.search.proofs.place_test.test_place.Statement.{statement}
