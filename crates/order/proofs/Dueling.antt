@@ -141,7 +141,7 @@ module _ {meet : ℕ → ℕ → Meeting} {p : ℕ → Bool} {A : ℕ → ℕ �
       rw append-nil
       (record { below = λ z k. let b : z < n = a .below z k in omega arith; standing = a .standing; count = a .count; unstruck = a .unstruck })
 
-  arrive-append : (xs ys : List ℕ) (s : Stack) → arriveAll meet (xs ++ ys) s ≡ arriveAll meet ys (arriveAll meet xs s)
+  pub arrive-append : (xs ys : List ℕ) (s : Stack) → arriveAll meet (xs ++ ys) s ≡ arriveAll meet ys (arriveAll meet xs s)
   unfolding arriveAll
   arrive-append [] ys s = refl
   arrive-append (x ∷ xs) ys s = arrive-append xs ys (arrive meet x (s .kept) (s .fought))
