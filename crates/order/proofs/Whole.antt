@@ -13,7 +13,7 @@ use Rattle.order.specs.Sizes.{those, windowsOf, window}
 use Rattle.order.specs.Isomorphic.{Iso}
 use Rattle.order.specs.Duels.{entrants, survivors}
 use Rattle.order.specs.Sweeping.{positions}
-use Rattle.order.specs.Written.{occurrences}
+use Rattle.order.specs.Written.{countsOf, occurrences}
 use Rattle.order.specs.Demands.{Demands}
 use Rattle.order.proofs.Lists.{passing, passing-append, passing-one, those-suc, mem-those, those-mem, mem-passing, Ascending}
 use Rattle.order.proofs.Isomorphisms.{iso-computed, computed-iso}
@@ -70,13 +70,20 @@ unstruck P T x h e =
     mem-passing (occurs P T) (survivors P T)
     (subst (List·Memᴰ x) (sym (survivors-unstruck P T ∙ entrants-occur P T)) (occurrence-is P T x .1 (h, e)))
 
-pub demands-hold : (P T : List ℤ) → Demands P T
+pub demands-hold : (P T : List ℤ) → Demands P T (survivors P T) (positions P T) (countsOf P T)
+unfolding countsOf
 demands-hold P T =
     record {
       exact = positions-are P T;
-      listed = λ x. subst (λ (l : List ℕ). List·Memᴰ x l ↔ (x < windowsOf (length P) (length T)) × Iso P (window T x (length P))) (sym (positions-are P T)) (occurrence-is P T x);
+      each-listed = λ x. subst (λ (l : List ℕ). List·Memᴰ x l ↔ (x < windowsOf (length P) (length T)) × Iso P (window T x (length P))) (sym (positions-are P T)) (occurrence-is P T x);
       unstruck = unstruck P T;
       agreeing = λ x y h k l. inr (survivors-agree P T x y h k l);
       duelling = duels-and-survivors P T;
-      sweeping = sweep-cost P T
+      sweeping = sweep-cost P T;
+      windows-are = refl;
+      duels-are = refl;
+      kept-are = refl;
+      kept-number = refl;
+      sweep-is = refl;
+      listed-number = refl
     }
