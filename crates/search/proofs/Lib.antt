@@ -11,3 +11,5 @@ pub mod StackLaws
 pub mod SweepSteps
 pub mod Offsets
 pub mod OwnTables
+pub mod FilledUp
+pub mod ForeignEntries

@@ -2,12 +2,15 @@
 use Prim.Native.Nat.{ℕ, _+_, _≤_, _<_}
 use mathlib.Core.Path.{_≡_}
 use mathlib.Core.List.{List}
+use mathlib.Core.Bool.{cond}
+use lib.Dec.{ltb}
 use lib.IntN.{ℤ}
 use lib.ListN.{length, getD, take}
-use Rattle.order.specs.Sizes.{entry, patternLimit, traceLimit, windowsOf}
-use Rattle.order.specs.Neighbours.{lowOf, highOf}
+use Rattle.order.specs.Sizes.{none, place, lowest, entry, patternLimit, traceLimit, windowsOf}
+use Rattle.order.specs.Refusals.{foreignAt}
 use Rattle.order.specs.Witnesses.{witnessI, witnessJ}
 use Rattle.order.specs.Duels.{survivors}
+use Rattle.search.specs.Asked.{OwnNeighbours}
 
 -- a duel of window y with the one a before it, by the witness (i, j)
 pub record Duelable (P T : List ℤ) (y a i j : ℕ) : Type 0 where
@@ -37,14 +40,6 @@ pub record Duels (P : List ℤ) (wi wj : List ℕ) (T : List ℤ) (windows : ℕ
   pub number : windows ≡ windowsOf (length P) (length T)
   pub room : windows ≤ length before
 
--- the neighbour tables are the pattern's own below its length
-pub record OwnNeighbours (P : List ℤ) (low high : List ℕ) : Type 0 where
-  pub limit : length P ≤ patternLimit
-  pub low-long : length P ≤ length low
-  pub high-long : length P ≤ length high
-  pub low-own : (j : ℕ) → j < length P → getD low j 0 ≡ entry (lowOf P j)
-  pub high-own : (j : ℕ) → j < length P → getD high j 0 ≡ entry (highOf P j)
-
 -- survivor x, from a sample of it on, with so much spent before
 pub record Sweepable (P : List ℤ) (low high : List ℕ) (T : List ℤ) (x from before : ℕ) : Type 0 where
   pub own : OwnNeighbours P low high
@@ -60,3 +55,13 @@ pub record Sweeps (P : List ℤ) (low high : List ℕ) (T : List ℤ) (buffer : 
   pub held : take kept buffer ≡ survivors P T
   pub kept-long : kept ≤ length buffer
   pub room : kept ≤ length before
+
+-- r is the lowest entry below m at which two tables differ, or m
+pub record FirstDifference (table own : List ℕ) (m r : ℕ) : Type 0 where
+  pub within : r ≤ m
+  pub differs : r < m → getD table r 0 ≡ getD own r 0 → ⊥
+  pub alike-before : (k : ℕ) → k < r → getD table k 0 ≡ getD own k 0
+
+-- r is the lowest entry of the four tables that is not the pattern's own, or the pattern's length
+pub record FirstForeign (P : List ℤ) (low high wi wj : List ℕ) (r : ℕ) : Type 0 where
+  pub found : lowest (foreignAt P low high wi wj) (length P) ≡ cond (ltb r (length P)) (place r) none

@@ -1,5 +1,6 @@
 // What each call answers. Follows docs/RULES.md, "Refusals": specs/Answers.antt gives each case its number and values.
 
+use order::Counts;
 use order::Refusal;
 
 // What preparation answers.
@@ -12,5 +13,11 @@ pub enum Prepared {
 pub enum Agreement {
     Agree,
     Differ,
+    Refused(Refusal),
+}
+
+// What a search answers.
+pub enum Searched {
+    Done(Counts),
     Refused(Refusal),
 }

@@ -7,13 +7,18 @@ mod answers;
 mod checks;
 mod duels;
 mod neighbours;
+mod own_tables;
 mod place_test;
-mod sweep;
 mod preparation;
+
+mod sweep;
+mod unused_entries;
 mod windows;
 mod witnesses;
 
 pub use answers::Agreement;
 pub use answers::Prepared;
+pub use answers::Searched;
 pub use preparation::prepare;
+
 pub use windows::agree;

@@ -15,7 +15,7 @@ ghost use Rattle.search.specs.Asked.{Room, TablesWritten};
 ghost use Rattle.search.specs.Promises.{PreparePromise};
 
 // Writes the pattern's tables, each from entry 0 on.
-fn write_tables(
+pub(crate) fn write_tables(
     pattern: &[i32],
     low: &mut [u16],
     high: &mut [u16],
