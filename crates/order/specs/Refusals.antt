@@ -91,15 +91,20 @@ unfoldable pub ownVerdict : Spot → Verdict
 ownVerdict none = accepted
 ownVerdict (place k) = refused (ForeignEntry k)
 
+-- 4 to 6, on the lengths of the trace and of the two buffers
+unfoldable pub roomVerdict : ℕ → ℕ → ℕ → ℕ → Verdict → Verdict
+roomVerdict m n survivors positions next =
+    refuse (ltb traceLimit n) (LongTrace n)
+    (refuse (ltb survivors (windowsOf m n)) (ShortSurvivors (windowsOf m n))
+    (refuse (ltb positions (windowsOf m n)) (ShortPositions (windowsOf m n)) next))
+
 -- search: 1 to 7
 unfoldable pub searchVerdict : List ℤ → List ℕ → List ℕ → List ℕ → List ℕ → List ℤ → ℕ → ℕ → Verdict
 searchVerdict P low high wi wj T survivors positions =
     patternVerdict (length P)
     (tablesVerdict (length P) (length low) (length high) (length wi) (length wj)
-    (refuse (ltb traceLimit (length T)) (LongTrace (length T))
-    (refuse (ltb survivors (windowsOf (length P) (length T))) (ShortSurvivors (windowsOf (length P) (length T)))
-    (refuse (ltb positions (windowsOf (length P) (length T))) (ShortPositions (windowsOf (length P) (length T)))
-    (ownVerdict (lowest (foreignAt P low high wi wj) (length P)))))))
+    (roomVerdict (length P) (length T) survivors positions
+    (ownVerdict (lowest (foreignAt P low high wi wj) (length P)))))
 
 -- reading: 8 to 12
 unfoldable pub readVerdict : List ℕ → ℕ → Verdict
