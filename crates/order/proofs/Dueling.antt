@@ -39,13 +39,14 @@ Agreeing A (x ∷ xs) = ((z : ℕ) → List·Memᴰ z xs → (x < z) × A x z) �
 
 agreeing-more : (A : ℕ → ℕ → Type 0) (xs : List ℕ) (y : ℕ) → Agreeing A xs → ((z : ℕ) → List·Memᴰ z xs → (z < y) × A z y) → Agreeing A (xs ++ (y ∷ []))
 agreeing-more A [] y g f = ((λ z h. absurd (List·Memᴰ·not-nil h)), tt)
-agreeing-more A (x ∷ xs) y g f =
-    ((λ z h.
+agreeing-more A (x ∷ xs) y g f = (
+  (λ z h.
       ⊎-elim
       (λ (k : List·Memᴰ z xs). g .0 z k)
       (λ (k : List·Memᴰ z (y ∷ [])). subst (λ (v : ℕ). (x < v) × A x v) (sym (List·Memᴰ·eq-of-singleton k)) (f x (List·Memᴰ·head refl)))
       (List·Memᴰ·append-cases xs h)),
-    agreeing-more A xs y (g .1) (λ z h. f z (List·Memᴰ·tail h)))
+  agreeing-more A xs y (g .1) (λ z h. f z (List·Memᴰ·tail h)),
+)
 
 standing-agreeing : (A : ℕ → ℕ → Type 0) (xs : List ℕ) → Standing A xs → Agreeing A (reverse xs)
 standing-agreeing A [] g = tt
@@ -66,38 +67,41 @@ module _ {meet : ℕ → ℕ → Meeting} {p : ℕ → Bool} {A : ℕ → ℕ �
   step y x xs d Agree next h t g n =
       record {
         within = λ z k. k;
-        standing = ((λ z k.
-          ⊎-elim
-          (λ (e : z ≡ x). subst (λ (v : ℕ). (v < y) × A v y) (sym e) (h, t))
-          (λ (e : List·Memᴰ z xs). let b = g .0 z e in let zx : z < x = b .0 in ((omega arith), F .along z x y zx h (b .1) t))
-          (List·Memᴰ·cases-cons k)), g);
+        standing = (
+          (λ z k.
+              ⊎-elim
+              (λ (e : z ≡ x). subst (λ (v : ℕ). (v < y) × A v y) (sym e) (h, t))
+              (λ (e : List·Memᴰ z xs). let b = g .0 z e in let zx : z < x = b .0 in ((omega arith), F .along z x y zx h (b .1) t))
+              (List·Memᴰ·cases-cons k)),
+          g,
+        );
         count = omega arith;
-        unstruck = passing-top p y (x ∷ xs)
+        unstruck = passing-top p y (x ∷ xs);
       }
   step y x xs d OlderFalls next h t g n =
       record {
         within = λ z k.
-          ⊎-elim
-          (λ (e : z ≡ y). List·Memᴰ·head e)
-          (λ (e : List·Memᴰ z xs). List·Memᴰ·tail (List·Memᴰ·tail e))
-          (List·Memᴰ·cases-cons (n .within z k));
+            ⊎-elim
+            (λ (e : z ≡ y). List·Memᴰ·head e)
+            (λ (e : List·Memᴰ z xs). List·Memᴰ·tail (List·Memᴰ·tail e))
+            (List·Memᴰ·cases-cons (n .within z k));
         standing = n .standing;
         count = let c = n .count in omega arith;
-        unstruck = n .unstruck ∙ ap (λ l. l ++ passing p (y ∷ [])) (sym (passing-top-none p x xs t))
+        unstruck = n .unstruck ∙ ap (λ l. l ++ passing p (y ∷ [])) (sym (passing-top-none p x xs t));
       }
   step y x xs d NewerFalls next h t g n =
       record {
         within = λ z k. List·Memᴰ·tail k;
         standing = g;
         count = omega arith;
-        unstruck = sym (ap (λ l. passing p (reverse (x ∷ xs)) ++ l) (passing-none p y t) ∙ append-nil (passing p (reverse (x ∷ xs))))
+        unstruck = sym (ap (λ l. passing p (reverse (x ∷ xs)) ++ l) (passing-none p y t) ∙ append-nil (passing p (reverse (x ∷ xs))));
       }
   step y x xs d BothFall next h t g n =
       record {
         within = λ z k. List·Memᴰ·tail (List·Memᴰ·tail k);
         standing = g .1;
         count = omega arith;
-        unstruck = sym (ap₂ _++_ (passing-top-none p x xs (t .0)) (passing-none p y (t .1)) ∙ append-nil (passing p (reverse xs)))
+        unstruck = sym (ap₂ _++_ (passing-top-none p x xs (t .0)) (passing-none p y (t .1)) ∙ append-nil (passing p (reverse xs)));
       }
 
   arrived : (y : ℕ) (xs : List ℕ) (d : ℕ) → Standing A xs → ((z : ℕ) → List·Memᴰ z xs → z < y) → Arrived y xs d (arrive meet y xs d)
@@ -107,7 +111,7 @@ module _ {meet : ℕ → ℕ → Meeting} {p : ℕ → Bool} {A : ℕ → ℕ �
         within = λ z k. k;
         standing = ((λ z k. absurd (List·Memᴰ·not-nil k)), tt);
         count = omega arith;
-        unstruck = passing-top p y []
+        unstruck = passing-top p y [];
       }
   arrived y (x ∷ xs) d g f =
       let h : x < y = f x (List·Memᴰ·head refl) in
@@ -126,13 +130,13 @@ module _ {meet : ℕ → ℕ → Meeting} {p : ℕ → Bool} {A : ℕ → ℕ �
   after-more L n s true a =
       record {
         below = λ z k.
-          ⊎-elim
-          (λ (e : z ≡ n). omega arith)
-          (λ (e : List·Memᴰ z (s .kept)). let b : z < n = a .below z e in omega arith)
-          (List·Memᴰ·cases-cons (r .within z k));
+            ⊎-elim
+            (λ (e : z ≡ n). omega arith)
+            (λ (e : List·Memᴰ z (s .kept)). let b : z < n = a .below z e in omega arith)
+            (List·Memᴰ·cases-cons (r .within z k));
         standing = r .standing;
         count = let c = r .count in let b = a .count in rw length-append (omega arith);
-        unstruck = r .unstruck ∙ ap (λ l. l ++ passing p (n ∷ [])) (a .unstruck) ∙ sym (passing-append p L (n ∷ []))
+        unstruck = r .unstruck ∙ ap (λ l. l ++ passing p (n ∷ [])) (a .unstruck) ∙ sym (passing-append p L (n ∷ []));
       }
     where
       r : Arrived n (s .kept) (s .fought) (arrive meet n (s .kept) (s .fought))
@@ -159,7 +163,7 @@ pub rules-fair : (P T : List ℤ) → Fair (meets P T) (occurs P T) (Agrees P)
 rules-fair P T =
     record {
       told = meets-fate P T;
-      along = λ x y z h k a b. chain-windows iso-inherits P x y z (omega arith) (omega arith) a b
+      along = λ x y z h k a b. chain-windows iso-inherits P x y z (omega arith) (omega arith) a b;
     }
 
 rules-ended : (P T : List ℤ) → After (rules-fair P T) (entrants P T) (windowsOf (length P) (length T)) (duelled P T)

@@ -27,6 +27,7 @@ module _ {A : Type 0} {R : List A → List A → Type 0} (E : PartsInherit R) wh
     where
       n : ℕ
       n = length P - (a + b)
+
       rest : take n (drop a (drop b P)) ≡ drop (a + b) P
       rest = ap (take n) (drop-drop a b P ∙ ap (λ k. drop k P) (add-comm b a)) ∙ take-all n (drop (a + b) P) (rw length-drop (omega arith))
 

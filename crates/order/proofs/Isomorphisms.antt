@@ -27,7 +27,7 @@ iso-part : {u v : List ℤ} (s n : ℕ) → Iso u v → Iso (take n (drop s u)) 
 iso-part {u} {v} s n e =
     record {
       lengths = length-take n (drop s u) ∙ ap (min n) (length-drop s u ∙ ap (λ k. k - s) (e .lengths) ∙ sym (length-drop s v)) ∙ sym (length-take n (drop s v));
-      order = ordered
+      order = ordered;
     }
   where
     ordered : (i j : ℕ) → i < length (take n (drop s u)) → j < length (take n (drop s u)) → leZ (at (take n (drop s u)) i) (at (take n (drop s u)) j) ≡ leZ (at (take n (drop s v)) i) (at (take n (drop s v)) j)
@@ -49,14 +49,13 @@ iso-inherits =
       reflexive = λ u. record { lengths = refl; order = λ i j p q. refl };
       symmetric = λ {u} {v} e. record { lengths = sym (e .lengths); order = λ i j p q. sym (e .order i j (rw (e .lengths) p) (rw (e .lengths) q)) };
       transitive = λ {u} {v} {w} e f. record { lengths = e .lengths ∙ f .lengths; order = λ i j p q. e .order i j p q ∙ f .order i j (rw (e .lengths) at p) (rw (e .lengths) at q) };
-      part = λ s n e. iso-part s n e
+      part = λ s n e. iso-part s n e;
     }
 
 -- as printed
 pub record Printed (u v : List ℤ) : Type 0 where
   pub lengths : length u ≡ length v
   pub order : (i j : ℕ) → i < length u → j < length u → (at u i ≤ℤ at u j) ↔ (at v i ≤ℤ at v j)
-
 
 -- a test passes exactly if its proposition holds, so two tests are equal exactly if their propositions are equivalent
 on-T : (b : Bool) → T b → b ≡ true
@@ -68,20 +67,21 @@ of-T true e = tt
 of-T false e = clash e refl
 
 pub iso-as-printed : (u v : List ℤ) → Iso u v ↔ Printed u v
-iso-as-printed u v =
-    ((λ e.
+iso-as-printed u v = (
+  (λ e.
       record {
         lengths = e .lengths;
-        order = λ i j p q. (λ h. record { le = subst T (e .order i j p q) (h .le) }, λ h. record { le = subst T (sym (e .order i j p q)) (h .le) })
+        order = λ i j p q. (λ h. record { le = subst T (e .order i j p q) (h .le) }, λ h. record { le = subst T (sym (e .order i j p q)) (h .le) });
       }),
-    λ f.
+  λ f.
       record {
         lengths = f .lengths;
         order = λ i j p q.
-          same-test (leZ (at u i) (at u j)) (leZ (at v i) (at v j))
-          (λ h. on-T (leZ (at v i) (at v j)) (f .order i j p q .0 (record { le = of-T (leZ (at u i) (at u j)) h }) .le))
-          (λ h. on-T (leZ (at u i) (at u j)) (f .order i j p q .1 (record { le = of-T (leZ (at v i) (at v j)) h }) .le))
-      })
+            same-test (leZ (at u i) (at u j)) (leZ (at v i) (at v j))
+            (λ h. on-T (leZ (at v i) (at v j)) (f .order i j p q .0 (record { le = of-T (leZ (at u i) (at u j)) h }) .le))
+            (λ h. on-T (leZ (at u i) (at u j)) (f .order i j p q .1 (record { le = of-T (leZ (at v i) (at v j)) h }) .le));
+      },
+)
 
 -- a test that every number below n passes
 pub all-pass : (n : ℕ) (p : ℕ → Bool) → ((i : ℕ) → i < n → p i ≡ true) → allBelow n p ≡ true
@@ -108,8 +108,8 @@ computed-iso u v e =
     record {
       lengths = eqb-true (length u) (length v) (and-first (eqb (length u) (length v)) _ e);
       order = λ i j p q.
-        beq-same (leZ (at u i) (at u j)) (leZ (at v i) (at v j))
-        (pass-each (length u) (λ (j : ℕ). Bool·beq (leZ (at u i) (at u j)) (leZ (at v i) (at v j)))
-        (pass-each (length u) (λ (i : ℕ). allBelow (length u) (λ j. Bool·beq (leZ (at u i) (at u j)) (leZ (at v i) (at v j))))
-        (and-second (eqb (length u) (length v)) _ e) i p) j q)
+          beq-same (leZ (at u i) (at u j)) (leZ (at v i) (at v j))
+          (pass-each (length u) (λ (j : ℕ). Bool·beq (leZ (at u i) (at u j)) (leZ (at v i) (at v j)))
+          (pass-each (length u) (λ (i : ℕ). allBelow (length u) (λ j. Bool·beq (leZ (at u i) (at u j)) (leZ (at v i) (at v j))))
+          (and-second (eqb (length u) (length v)) _ e) i p) j q);
     }

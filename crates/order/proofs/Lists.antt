@@ -197,13 +197,14 @@ Ascending (x ∷ xs) = ((z : ℕ) → List·Memᴰ z xs → x < z) × Ascending 
 
 pub ascending-more : (xs : List ℕ) (y : ℕ) → Ascending xs → ((z : ℕ) → List·Memᴰ z xs → z < y) → Ascending (xs ++ (y ∷ []))
 ascending-more [] y a f = ((λ z h. absurd (List·Memᴰ·not-nil h)), tt)
-ascending-more (x ∷ xs) y a f =
-    ((λ z h.
+ascending-more (x ∷ xs) y a f = (
+  (λ z h.
       ⊎-elim
       (λ (k : List·Memᴰ z xs). a .0 z k)
       (λ (k : List·Memᴰ z (y ∷ [])). rw (List·Memᴰ·eq-of-singleton k) (f x (List·Memᴰ·head refl)))
       (List·Memᴰ·append-cases xs h)),
-    ascending-more xs y (a .1) (λ z h. f z (List·Memᴰ·tail h)))
+  ascending-more xs y (a .1) (λ z h. f z (List·Memᴰ·tail h)),
+)
 
 pub those-ascend : (p : ℕ → Bool) (n : ℕ) → Ascending (those p n)
 unfolding those

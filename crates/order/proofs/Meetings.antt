@@ -61,21 +61,21 @@ module _ (P T : List ℤ) (x y : ℕ) (h : x < y) where
   newer-struck : (i j : ℕ) → Witnessed P (y - x) i j → seen i j ≡ false → occurs P T y ≡ false
   newer-struck i j w e =
       must-fail (occurs P T y) λ t.
-        let ij : i < j = w .earlier in
-        let jm : y - x + j < length P = w .inside in
-        clash (ap (λ r. alike r (rel (at P i) (at P j))) (occurs-alike P T y i j (computed-iso P (window T y (length P)) t) (omega arith) (omega arith)) ∙ alike-refl (rel (at P i) (at P j))) e
+      let ij : i < j = w .earlier in
+      let jm : y - x + j < length P = w .inside in
+      clash (ap (λ r. alike r (rel (at P i) (at P j))) (occurs-alike P T y i j (computed-iso P (window T y (length P)) t) (omega arith) (omega arith)) ∙ alike-refl (rel (at P i) (at P j))) e
 
   older-struck : (i j : ℕ) → Witnessed P (y - x) i j → seen-older i j ≡ false → occurs P T x ≡ false
   older-struck i j w e =
       must-fail (occurs P T x) λ t.
-        let ij : i < j = w .earlier in
-        let jm : y - x + j < length P = w .inside in
-        let yi : x + (y - x + i) ≡ y + i = omega arith in
-        let yj : x + (y - x + j) ≡ y + j = omega arith in
-        clash
-        (ap (λ r. alike r (rel (at P (y - x + i)) (at P (y - x + j))))
-        (ap₂ (λ a b. rel (at T a) (at T b)) (sym yi) (sym yj) ∙ occurs-alike P T x (y - x + i) (y - x + j) (computed-iso P (window T x (length P)) t) (omega arith) (omega arith)) ∙
-        alike-refl (rel (at P (y - x + i)) (at P (y - x + j)))) e
+      let ij : i < j = w .earlier in
+      let jm : y - x + j < length P = w .inside in
+      let yi : x + (y - x + i) ≡ y + i = omega arith in
+      let yj : x + (y - x + j) ≡ y + j = omega arith in
+      clash
+      (ap (λ r. alike r (rel (at P (y - x + i)) (at P (y - x + j))))
+      (ap₂ (λ a b. rel (at T a) (at T b)) (sym yi) (sym yj) ∙ occurs-alike P T x (y - x + i) (y - x + j) (computed-iso P (window T x (length P)) t) (omega arith) (omega arith)) ∙
+      alike-refl (rel (at P (y - x + i)) (at P (y - x + j)))) e
 
   -- both can't stand
   pub not-both : (i j : ℕ) → Witnessed P (y - x) i j → seen i j ≡ true → seen-older i j ≡ true → ⊥

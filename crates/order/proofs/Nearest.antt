@@ -59,7 +59,7 @@ module _ {le : ℤ → ℤ → Bool} (o : Ordering le) (P : List ℤ) (j : ℕ) 
         below = let h : k < n = f .below in omega arith;
         side = f .side;
         best = below-suc (λ i. le (at P i) (at P j) ≡ true → le (at P i) (at P k) ≡ true) n (f .best) (λ t. clash t e);
-        rightmost = below-suc (λ i. k < i → le (at P i) (at P j) ≡ true → le (at P k) (at P i) ≡ false) n (f .rightmost) (λ h t. clash t e)
+        rightmost = below-suc (λ i. k < i → le (at P i) (at P j) ≡ true → le (at P k) (at P i) ≡ false) n (f .rightmost) (λ h t. clash t e);
       }
 
   -- a place on this side is the neighbour unless the one before is strictly nearer
@@ -70,7 +70,7 @@ module _ {le : ℤ → ℤ → Bool} (o : Ordering le) (P : List ℤ) (j : ℕ) 
         below = omega arith;
         side = e;
         best = below-suc (λ i. le (at P i) (at P j) ≡ true → le (at P i) (at P n) ≡ true) n (λ i h t. clash t (f i h)) (λ t. le-refl (at P n));
-        rightmost = λ i h k t. absurd (omega arith)
+        rightmost = λ i h k t. absurd (omega arith);
       }
   taken-in n (place k) e f = go (le (at P k) (at P n)) refl
     where
@@ -80,15 +80,15 @@ module _ {le : ℤ → ℤ → Bool} (o : Ordering le) (P : List ℤ) (j : ℕ) 
             below = omega arith;
             side = e;
             best = below-suc (λ i. le (at P i) (at P j) ≡ true → le (at P i) (at P n) ≡ true) n
-                   (λ i h t. o .trans (at P i) (at P k) (at P n) (f .best i h t) u) (λ t. le-refl (at P n));
-            rightmost = λ i h k t. absurd (omega arith)
+                (λ i h t. o .trans (at P i) (at P k) (at P n) (f .best i h t) u) (λ t. le-refl (at P n));
+            rightmost = λ i h k t. absurd (omega arith);
           }
       go false u =
           record {
             below = let h : k < n = f .below in omega arith;
             side = f .side;
             best = below-suc (λ i. le (at P i) (at P j) ≡ true → le (at P i) (at P k) ≡ true) n (f .best) (λ t. o .total (at P k) (at P n) u);
-            rightmost = below-suc (λ i. k < i → le (at P i) (at P j) ≡ true → le (at P k) (at P i) ≡ false) n (f .rightmost) (λ h t. u)
+            rightmost = below-suc (λ i. k < i → le (at P i) (at P j) ≡ true → le (at P k) (at P i) ≡ false) n (f .rightmost) (λ h t. u);
           }
 
   nearest-step : (n : ℕ) (s : Spot) (t : Bool) → le (at P n) (at P j) ≡ t → Neighbour le P j n s → Neighbour le P j (suc n) (cond t (nearer le P n s) s)
@@ -120,8 +120,10 @@ same-spot P j i h p q (place k) (place l) f g = ap place (go (leb k l) (leb l k)
     -- the low neighbour's value is place j's, and so is the high one's
     k-up : leZ (at P j) (at P k) ≡ true
     k-up = leZ-trans (at P j) (at P i) (at P k) q (f .best i h p)
+
     l-down : leZ (at P l) (at P j) ≡ true
     l-down = leZ-trans (at P l) (at P i) (at P j) (g .best i h q) p
+
     go : (a b : Bool) → leb k l ≡ a → leb l k ≡ b → k ≡ l
     go true true x y = let u : k ≤ l = leb-true k l x in let w : l ≤ k = leb-true l k y in omega arith
     go true false x y =

@@ -60,6 +60,7 @@ module _ (P v : List ℤ) (j : ℕ) where
       unplace : Spot → ℕ
       unplace none = 0
       unplace (place n) = n
+
       go : (t : Bool) → passes (cond t (Passed (c + 1)) (Failed (c + 1) k)) ≡ true → t ≡ true
       go true e = refl
       go false e = e
@@ -153,10 +154,13 @@ module _ {le : ℤ → ℤ → Bool} (o : Ordering le) (P v : List ℤ) (j : ℕ
     where
       above : le (at P j) (at P i) ≡ true
       above = o .total (at P i) (at P j) fails
+
       k-i : le (at v k) (at v i) ≡ true
       k-i = sym (f k i (n .below) h) ∙ n .best i h above
+
       i-k : le (at P i) (at P k) ≡ true
       i-k = f i k h (n .below) ∙ o .trans (at v i) (at v j) (at v k) e (sym (t k refl .1) ∙ n .side)
+
       k-j : le (at P k) (at P j) ≡ true
       k-j = t k refl .0 ∙ o .trans (at v k) (at v i) (at v j) k-i e
 
@@ -187,16 +191,21 @@ order-more P v j f e i k hi hk =
   where
     low : Tells leZ P v j (lowOf P j)
     low = matches-tells P v j (lowOf P j) (pass-low P v j e)
+
     high : Tells leZ P v j (highOf P j)
     high = matches-tells P v j (highOf P j) (pass-high P v j e)
+
     turn : (s : Spot) → Tells leZ P v j s → Tells (flipped leZ) P v j s
     turn s t k w = (t k w .1, t k w .0)
+
     from-left : (i : ℕ) → i < j → leZ (at P i) (at P j) ≡ leZ (at v i) (at v j)
     from-left = stands-alike upward P v j f (lowOf P j) (highOf P j) (low-is P j) (high-is P j) low high
+
     from-right : (i : ℕ) → i < j → leZ (at P j) (at P i) ≡ leZ (at v j) (at v i)
     from-right =
         stands-alike (turned upward) P v j (λ i k h g. f k i g h) (highOf P j) (lowOf P j) (high-is P j) (low-is P j)
         (turn (highOf P j) high) (turn (lowOf P j) low)
+
     itself : leZ (at P j) (at P j) ≡ leZ (at v j) (at v j)
     itself = leZ-refl (at P j) ∙ sym (leZ-refl (at v j))
 
@@ -229,10 +238,10 @@ order-iso P v k p q f =
     record {
       lengths = length-take-le k P p ∙ sym (length-take-le k v q);
       order = λ i j h g.
-        let hi : i < k = rw (length-take-le k P p) at h in
-        let hj : j < k = rw (length-take-le k P p) at g in
-        ap₂ leZ (getD-take k P i (pos 0) hi) (getD-take k P j (pos 0) hj) ∙ f i j hi hj ∙
-        sym (ap₂ leZ (getD-take k v i (pos 0) hi) (getD-take k v j (pos 0) hj))
+          let hi : i < k = rw (length-take-le k P p) at h in
+          let hj : j < k = rw (length-take-le k P p) at g in
+          ap₂ leZ (getD-take k P i (pos 0) hi) (getD-take k P j (pos 0) hj) ∙ f i j hi hj ∙
+          sym (ap₂ leZ (getD-take k v i (pos 0) hi) (getD-take k v j (pos 0) hj));
     }
 
 pub iso-order : (P v : List ℤ) (k : ℕ) → k ≤ length P → Iso (take k P) (take k v) → Ordered leZ P v k

@@ -45,7 +45,7 @@ pub record Tallies (test : ℕ → ℕ → Tested) (weigh : Weight) (K : ℕ →
   pub raise : (e f w r k : ℕ) → e ≤ f → K e w r k → K f w r k
 
 module _ {test : ℕ → ℕ → Tested} {m : ℕ} {q : ℕ → Bool} {A : ℕ → ℕ → Type 0} {n : ℕ} (C : Carries test m q A n)
-         {weigh : Weight} {K : ℕ → ℕ → ℕ → ℕ → Type 0} (Y : Tallies test weigh K) where
+    {weigh : Weight} {K : ℕ → ℕ → ℕ → ℕ → Type 0} (Y : Tallies test weigh K) where
   -- what the tests of one survivor leave
   record Ended (x e k : ℕ) (l : List ℕ) (s : Swept) : Type 0 where
     pub from : e ≤ s .reach
@@ -68,7 +68,7 @@ module _ {test : ℕ → ℕ → Tested} {m : ℕ} {q : ℕ → Bool} {A : ℕ �
         to = omega arith;
         known = kn;
         listing = sym (ap (λ r. l ++ r) (passing-one q x ∙ ap (λ t. cond t (x ∷ []) []) (C .nay x (e - x) (omega arith) fails)) ∙ append-nil l);
-        tally = subst (λ t. K e (w + weigh t) (length l) (k + 1)) eq (Y .fail x (e - x) e w (length l) k fails tl)
+        tally = subst (λ t. K e (w + weigh t) (length l) (k + 1)) eq (Y .fail x (e - x) e w (length l) k fails tl);
       }
 
   ends : (x f e w k : ℕ) (l : List ℕ) → x ≤ e → x + m ≤ n → e + f ≡ x + m → Known test x (e - x) → K e w (length l) k → Ended x e k l (tests weigh test x f e w l)
@@ -79,7 +79,7 @@ module _ {test : ℕ → ℕ → Tested} {m : ℕ} {q : ℕ → Bool} {A : ℕ �
         to = omega arith;
         known = kn;
         listing = sym (ap (λ r. l ++ r) (passing-one q x ∙ ap (λ t. cond t (x ∷ []) []) (C .yes x xm (λ j h. kn j (omega arith)))));
-        tally = rw length-append (Y .list e w (length l) k tl)
+        tally = rw length-append (Y .list e w (length l) k tl);
       }
   ends x (suc f) e w k l xe xm ef kn tl =
       one-test x f e w k l (test x (e - x)) refl (tests weigh test x f (e + 1) (w + weigh (test x (e - x))) l) xe xm ef kn tl
@@ -116,13 +116,14 @@ module _ {test : ℕ → ℕ → Tested} {m : ℕ} {q : ℕ → Bool} {A : ℕ �
       record {
         reach = let a : s .reach ≤ x + m = r .to in let b : x + m ≤ n = f x (List·Memᴰ·head refl) in omega arith;
         known = λ z h.
-          let a : s .reach ≤ x + m = r .to in
-          let b : x < z = g .0 z h .0 in
-          let same : s .reach - x - (z - x) ≡ s .reach - z = omega arith in
-          ((omega arith),
-          subst (Known test z) same
-          (C .over x z (s .reach - x) b (f x (List·Memᴰ·head refl)) (f z (List·Memᴰ·tail h)) (g .0 z h .1) (omega arith) (r .known)));
-        tally = r .tally
+            let a : s .reach ≤ x + m = r .to in
+            let b : x < z = g .0 z h .0 in
+            let same : s .reach - x - (z - x) ≡ s .reach - z = omega arith in (
+              (omega arith),
+              subst (Known test z) same
+                  (C .over x z (s .reach - x) b (f x (List·Memᴰ·head refl)) (f z (List·Memᴰ·tail h)) (g .0 z h .1) (omega arith) (r .known)),
+            );
+        tally = r .tally;
       }
 
   joined : (x k : ℕ) (xs l : List ℕ) (e : ℕ) (s t : Swept) → Ended x e k l s → Done (k + 1) xs (s .listed) t → Done k (x ∷ xs) l t
@@ -131,9 +132,9 @@ module _ {test : ℕ → ℕ → Tested} {m : ℕ} {q : ℕ → Bool} {A : ℕ �
       record {
         reach = d .reach;
         listing =
-          d .listing ∙ ap (λ l. l ++ passing q xs) (r .listing ∙ ap (λ c. l ++ c) (passing-one q x)) ∙
-          append-assoc l (cond (q x) (x ∷ []) []) (passing q xs);
-        tally = let same : k + 1 + length xs ≡ k + length (x ∷ xs) = omega arith in rw same at (d .tally)
+            d .listing ∙ ap (λ l. l ++ passing q xs) (r .listing ∙ ap (λ c. l ++ c) (passing-one q x)) ∙
+            append-assoc l (cond (q x) (x ∷ []) []) (passing q xs);
+        tally = let same : k + 1 + length xs ≡ k + length (x ∷ xs) = omega arith in rw same at (d .tally);
       }
 
   pub sweeps : (xs : List ℕ) (k : ℕ) (s : Swept) → Agreeing A xs → ((z : ℕ) → List·Memᴰ z xs → z + m ≤ n) → Ready k xs s → Done k xs (s .listed) (sweepAll weigh test m xs s)
@@ -165,17 +166,17 @@ pub rules-carry : (P T : List ℤ) → Carries (testsOf P T) (length P) (occurs 
 rules-carry P T =
     record {
       over = λ x y k h xm ym a km f.
-        let same : x + (y - x) ≡ y = omega arith in
-        iso-known P T y (k - (y - x)) (omega arith)
-        (subst (λ (z : ℕ). Iso (take (k - (y - x)) P) (take (k - (y - x)) (drop z T))) same
-        (carry-over iso-inherits P T x (y - x) k km (known-iso P T x k km xm f) a));
+          let same : x + (y - x) ≡ y = omega arith in
+          iso-known P T y (k - (y - x)) (omega arith)
+          (subst (λ (z : ℕ). Iso (take (k - (y - x)) P) (take (k - (y - x)) (drop z T))) same
+          (carry-over iso-inherits P T x (y - x) k km (known-iso P T x k km xm f) a));
       yes = λ x xm f.
-        iso-computed P (window T x (length P)) (subst (λ (u : List ℤ). Iso u (window T x (length P))) (whole P) (known-iso P T x (length P) (omega arith) xm f));
+          iso-computed P (window T x (length P)) (subst (λ (u : List ℤ). Iso u (window T x (length P))) (whole P) (known-iso P T x (length P) (omega arith) xm f));
       nay = λ x j h f.
-        must-fail (occurs P T x) λ t.
+          must-fail (occurs P T x) λ t.
           clash
           (iso-known P T x (length P) (omega arith) (subst (λ (u : List ℤ). Iso u (window T x (length P))) (sym (whole P)) (computed-iso P (window T x (length P)) t)) j h)
-          f
+          f;
     }
 
 -- the sweep of a search, with any tally
@@ -200,7 +201,7 @@ module _ (P T : List ℤ) where
         pass = λ x j e w r k p h. let c = test-cost P (drop x T) j in omega arith;
         fail = λ x j e w r k p h. let c = test-cost P (drop x T) j in omega arith;
         list = λ e w r k h. omega arith;
-        raise = λ e f w r k h g. omega arith
+        raise = λ e f w r k h g. omega arith;
       }
 
   on-pass : (t : Tested) → passes t ≡ true → onPass t ≡ 1
@@ -230,7 +231,7 @@ module _ (P T : List ℤ) where
         pass = λ x j e w r k p h. let c = on-pass (testsOf P T x j) p in omega arith;
         fail = λ x j e w r k p h. let c = off-pass (testsOf P T x j) p in omega arith;
         list = λ e w r k h. h;
-        raise = λ e f w r k h g. omega arith
+        raise = λ e f w r k h g. omega arith;
       }
 
   -- failures and windows listed: one of them for each survivor
@@ -240,7 +241,7 @@ module _ (P T : List ℤ) where
         pass = λ x j e w r k p h. let c = off-fail (testsOf P T x j) p in omega arith;
         fail = λ x j e w r k p h. let c = on-fail (testsOf P T x j) p in omega arith;
         list = λ e w r k h. omega arith;
-        raise = λ e f w r k h g. g
+        raise = λ e f w r k h g. g;
       }
 
   -- W ≤ 2(n + S)

@@ -38,9 +38,10 @@ positions-are P T = sweep-lists P T ∙ survivors-unstruck P T ∙ entrants-occu
 -- which are the windows isomorphic with the pattern
 pub occurrence-is : (P T : List ℤ) (x : ℕ) → List·Memᴰ x (occurrences P T) ↔ (x < windowsOf (length P) (length T)) × Iso P (window T x (length P))
 unfolding occurrences
-occurrence-is P T x =
-    ((λ h. let b = mem-those (occurs P T) (windowsOf (length P) (length T)) h in (b .0, computed-iso P (window T x (length P)) (b .1))),
-    λ b. those-mem (occurs P T) (windowsOf (length P) (length T)) x (b .0) (iso-computed P (window T x (length P)) (b .1)))
+occurrence-is P T x = (
+  (λ h. let b = mem-those (occurs P T) (windowsOf (length P) (length T)) h in (b .0, computed-iso P (window T x (length P)) (b .1))),
+  λ b. those-mem (occurs P T) (windowsOf (length P) (length T)) x (b .0) (iso-computed P (window T x (length P)) (b .1)),
+)
 
 -- any two of a list that ascends and agrees
 any-two : (A : ℕ → ℕ → Type 0) (xs : List ℕ) → Agreeing A xs → (x y : ℕ) → List·Memᴰ x xs → List·Memᴰ y xs → x < y → A x y
@@ -85,5 +86,5 @@ demands-hold P T =
       kept-are = refl;
       kept-number = refl;
       sweep-is = refl;
-      listed-number = refl
+      listed-number = refl;
     }

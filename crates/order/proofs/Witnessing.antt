@@ -90,18 +90,22 @@ turned-alike a b c d e = let both = alike-tests a b c d e in same-tests-alike b 
 
 pub witness-is : (P : List ℤ) (a j : ℕ) → witnessJ P a ≡ place j → (i : ℕ) × (witnessI P a ≡ place i) × Witnessed P a i j
 unfolding witnessJ witnessI neighbourAt
-witness-is P a j e =
-    (f .0, rw e (f .1), record {
-      earlier = f .2 .earlier;
-      inside = let h : j < length P - a = l .below in omega arith;
-      differs = λ d.
+witness-is P a j e = (
+  f .0,
+  rw e (f .1),
+  record {
+    earlier = f .2 .earlier;
+    inside = let h : j < length P - a = l .below in omega arith;
+    differs = λ d.
         f .2 .differs
         (ap₂ rel (getD-drop a P j (pos 0)) (getD-drop a P (f .0) (pos 0)) ∙
-        turned-alike (at P (a + f .0)) (at P (a + j)) (at P (f .0)) (at P j) (sym d))
-    })
+        turned-alike (at P (a + f .0)) (at P (a + j)) (at P (f .0)) (at P j) (sym d));
+  },
+)
   where
     l : FirstFail P (drop a P) (length P - a) j
     l = first-fail P (drop a P) (length P - a) j e
+
     f : (i : ℕ) × (failedAt (testOf P (drop a P) j) ≡ place i) × FailsAt P (drop a P) j i
     f = fails-at P (drop a P) j (l .fails)
 

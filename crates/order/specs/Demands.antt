@@ -21,7 +21,7 @@ pub record Demands (P T : List ℤ) (kept listed : List ℕ) (c : Counts) : Type
   pub unstruck : (x : ℕ) → x < windowsOf (length P) (length T) → Iso P (window T x (length P)) → List·Memᴰ x kept
   -- any two survivors agree: they are m or more apart, or the pattern less its last values is isomorphic with it less its first
   pub agreeing : (x y : ℕ) → List·Memᴰ x kept → List·Memᴰ y kept → x < y
-    → (length P ≤ y - x) ⊎ Iso (take (length P - (y - x)) P) (drop (y - x) P)
+      → (length P ≤ y - x) ⊎ Iso (take (length P - (y - x)) P) (drop (y - x) P)
   -- D + S ≤ N
   pub duelling : c .duels + c .survivors ≤ c .windows
   -- W ≤ 2(n + S)

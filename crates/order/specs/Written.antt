@@ -18,7 +18,7 @@ countsOf P T =
       duels = duels P T;
       survivors = length (survivors P T);
       sweep = sweepCost P T;
-      found = length (positions P T)
+      found = length (positions P T);
     }
 
 -- the windows that are isomorphic with the pattern, ascending

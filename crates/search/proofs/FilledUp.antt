@@ -29,5 +29,6 @@ fill-one l from k h g =
   where
     long : length (take from l ++ replicate (k - from) unused) ≡ k
     long = length-append (take from l) (replicate (k - from) unused) ∙ rw (length-take-le from l (omega arith), length-replicate) (omega arith)
+
     more : k - from + 1 ≡ k + 1 - from
     more = omega arith

@@ -52,7 +52,7 @@ bound-of table mine own m r f d =
     record {
       within = d .within;
       here = λ h. other-fails table own r (λ e. d .differs h (e ∙ sym (f r h)));
-      before = λ k h. let w = d .within in same-passes table own k (d .alike-before k h ∙ f k (omega arith))
+      before = λ k h. let w = d .within in same-passes table own k (d .alike-before k h ∙ f k (omega arith));
     }
 
 -- of two tests joined
@@ -61,12 +61,13 @@ bound-both p q m r s a b =
     record {
       within = let h = a .within in omega arith;
       here = λ h. go h (ltb r s) refl;
-      before = λ k h. rw (a .before k (omega arith), b .before k (omega arith)) refl
+      before = λ k h. rw (a .before k (omega arith), b .before k (omega arith)) refl;
     }
   where
     or-true′ : (x : Bool) → (x || true) ≡ true
     or-true′ true = refl
     or-true′ false = refl
+
     go : min r s < m → (t : Bool) → ltb r s ≡ t → (p (min r s) || q (min r s)) ≡ true
     go h true e = let k : r < s = ltb-true r s e in let same : min r s ≡ r = omega arith in rw (same, a .here (omega arith)) refl
     go h false e = let k : s ≤ r = ltb-false r s e in let same : min r s ≡ s = omega arith in rw (same, b .here (omega arith)) (or-true′ (p s))
@@ -91,31 +92,41 @@ four-tables P low high wi wj low' high' wi' wj' a b c d f g h i p q r s =
   where
     m : ℕ
     m = length P
+
     la : ℕ → Bool
     la = off low (λ k. entry (lowOf P k))
+
     ha : ℕ → Bool
     ha = off high (λ k. entry (highOf P k))
+
     ia : ℕ → Bool
     ia = off wi (λ k. entry (witnessI P k))
+
     ja : ℕ → Bool
     ja = off wj (λ k. entry (witnessJ P k))
+
     A : Bound la (length P) a
     A = bound-of low low' (λ k. entry (lowOf P k)) (length P) a f p
+
     B : Bound ha (length P) b
     B = bound-of high high' (λ k. entry (highOf P k)) (length P) b g q
+
     C : Bound ia (length P) c
     C = bound-of wi wi' (λ k. entry (witnessI P k)) (length P) c h r
+
     D : Bound ja (length P) d
     D = bound-of wj wj' (λ k. entry (witnessJ P k)) (length P) d i s
+
     regroup : (w x y z : Bool) → ((w || x) || (y || z)) ≡ (w || (x || (y || z)))
     regroup true x y z = refl
     regroup false x y z = refl
+
     rebound : {n : ℕ} → Bound (λ k. (la k || ha k) || (ia k || ja k)) (length P) n → Bound (λ k. la k || (ha k || (ia k || ja k))) (length P) n
     rebound {n} t =
         record {
           within = t .within;
           here = λ l. sym (regroup (la n) (ha n) (ia n) (ja n)) ∙ t .here l;
-          before = λ k l. sym (regroup (la k) (ha k) (ia k) (ja k)) ∙ t .before k l
+          before = λ k l. sym (regroup (la k) (ha k) (ia k) (ja k)) ∙ t .before k l;
         }
 
 -- the same, where the pattern's own tables were written over some buffers

@@ -13,3 +13,6 @@ pub mod Offsets
 pub mod OwnTables
 pub mod FilledUp
 pub mod ForeignEntries
+pub mod VerdictRows
+pub mod WrittenOut
+pub mod SearchLaws

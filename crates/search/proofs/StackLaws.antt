@@ -116,7 +116,7 @@ module _ {P T : List ℤ} {l : List ℕ} {y k₀ d₀ k d : ℕ} where
       record {
         fewer = i .fewer;
         count = let c = i .count in omega arith;
-        same = i .same ∙ rw (e, top-zero l) refl
+        same = i .same ∙ rw (e, top-zero l) refl;
       }
 
 module _ {P T : List ℤ} {l : List ℕ} {y k₀ d₀ k d x : ℕ} (i : Looking P T l y k₀ d₀ k d) (some : k ≡ 0 → ⊥) (ex : x ≡ getD l (k - 1) 0) where
@@ -128,7 +128,7 @@ module _ {P T : List ℤ} {l : List ℕ} {y k₀ d₀ k d x : ℕ} (i : Looking 
       record {
         fewer = let f = i .fewer in omega arith;
         count = let c = i .count in omega arith;
-        same = i .same ∙ ap (λ n. arrive (meets P T) y (top l n) d) more ∙ look-older (meets P T) l y (k - 1) d (rw ex at e)
+        same = i .same ∙ ap (λ n. arrive (meets P T) y (top l n) d) more ∙ look-older (meets P T) l y (k - 1) d (rw ex at e);
       }
 
   pub settle-agree : meets P T x y ≡ Agree → Settled P T l y k₀ d₀ k d Pushed
@@ -136,7 +136,7 @@ module _ {P T : List ℤ} {l : List ℕ} {y k₀ d₀ k d x : ℕ} (i : Looking 
       record {
         fewer = i .fewer;
         count = let c = i .count in omega arith;
-        same = i .same ∙ ap (λ n. arrive (meets P T) y (top l n) d) more ∙ look-agree (meets P T) l y (k - 1) d (rw ex at e) ∙ ap (λ n. stacked (y ∷ top l n) d) (sym more)
+        same = i .same ∙ ap (λ n. arrive (meets P T) y (top l n) d) more ∙ look-agree (meets P T) l y (k - 1) d (rw ex at e) ∙ ap (λ n. stacked (y ∷ top l n) d) (sym more);
       }
 
   pub settle-newer : meets P T x y ≡ NewerFalls → Settled P T l y k₀ d₀ k (d + 1) Dropped
@@ -144,7 +144,7 @@ module _ {P T : List ℤ} {l : List ℕ} {y k₀ d₀ k d x : ℕ} (i : Looking 
       record {
         fewer = i .fewer;
         count = let c = i .count in omega arith;
-        same = i .same ∙ ap (λ n. arrive (meets P T) y (top l n) d) more ∙ look-newer (meets P T) l y (k - 1) d (rw ex at e) ∙ ap (λ n. stacked (top l n) (d + 1)) (sym more)
+        same = i .same ∙ ap (λ n. arrive (meets P T) y (top l n) d) more ∙ look-newer (meets P T) l y (k - 1) d (rw ex at e) ∙ ap (λ n. stacked (top l n) (d + 1)) (sym more);
       }
 
   pub settle-both : meets P T x y ≡ BothFall → Settled P T l y k₀ d₀ (k - 1) (d + 1) Dropped
@@ -152,7 +152,7 @@ module _ {P T : List ℤ} {l : List ℕ} {y k₀ d₀ k d x : ℕ} (i : Looking 
       record {
         fewer = let f = i .fewer in omega arith;
         count = let c = i .count in omega arith;
-        same = i .same ∙ ap (λ n. arrive (meets P T) y (top l n) d) more ∙ look-both (meets P T) l y (k - 1) d (rw ex at e)
+        same = i .same ∙ ap (λ n. arrive (meets P T) y (top l n) d) more ∙ look-both (meets P T) l y (k - 1) d (rw ex at e);
       }
 
 -- ---- all arrivals
@@ -199,7 +199,7 @@ module _ {P T : List ℤ} {windows : ℕ} {before l : List ℕ} {k₀ d₀ y : �
         count = let c = t .count in let b = s .count in omega arith;
         long = s .long;
         beyond = s .beyond;
-        stack = arrives t
+        stack = arrives t;
       }
 
   pub pushed-next : {k d : ℕ} → y < windows → windows ≤ length before → Settled P T l y k₀ d₀ k d Pushed → Standing P T windows before (set l k y) (k + 1) d (y + 1)
@@ -212,7 +212,7 @@ module _ {P T : List ℤ} {windows : ℕ} {before l : List ℕ} {k₀ d₀ y : �
         count = omega arith;
         long = length-set l k y ∙ s .long;
         beyond = drop-set-lt windows l k y small ∙ s .beyond;
-        stack = arrives t ∙ ap (λ xs. stacked xs d) (sym (top-push l k y in-buffer))
+        stack = arrives t ∙ ap (λ xs. stacked xs d) (sym (top-push l k y in-buffer));
       }
 
 -- at the end

@@ -52,7 +52,7 @@ module _ {P T : List ℤ} {x from before e w : ℕ} (i : Sweeping P T x from bef
         same = λ l. i .same l ∙ a-test P T x e w (x + length P - (e + 1)) l (Passed c) q left;
         onward = let o = i .onward in omega arith;
         until = let u = i .until in omega arith;
-        bound = let b = i .bound in let o = i .onward in let k : c ≤ 2 = cheap (Passed c) q in omega arith
+        bound = let b = i .bound in let o = i .onward in let k : c ≤ 2 = cheap (Passed c) q in omega arith;
       }
 
   pub ended-there : (c n : ℕ) → testOf P (drop x T) (e - x) ≡ Failed c n → SweptOne P T x from before e (w + c) false
@@ -62,7 +62,7 @@ module _ {P T : List ℤ} {x from before e w : ℕ} (i : Sweeping P T x from bef
         result = λ l. i .same l ∙ a-test P T x e w (x + length P - (e + 1)) l (Failed c n) q left ∙ ap (swept e (w + c)) (sym (append-nil l));
         onward = i .onward;
         until = i .until;
-        bound = let b = i .bound in let k : c ≤ 2 = cheap (Failed c n) q in omega arith
+        bound = let b = i .bound in let k : c ≤ 2 = cheap (Failed c n) q in omega arith;
       }
 
   -- a test costs at most 2
@@ -82,7 +82,7 @@ came-through {P} {x = x} {e = e} i h =
       result = λ l. i .same l ∙ rw none refl;
       onward = i .onward;
       until = i .until;
-      bound = let b = i .bound in omega arith
+      bound = let b = i .bound in omega arith;
     }
 
 -- ---- all survivors
@@ -101,7 +101,13 @@ pub none-swept : (P T : List ℤ) (kept : ℕ) (before : List ℕ) → SweptTo P
 unfolding sweptBy
 none-swept P T kept before =
     record {
-      within = omega arith; few = omega arith; reached = omega arith; bound = omega arith; long = refl; beyond = refl; state = refl
+      within = omega arith;
+      few = omega arith;
+      reached = omega arith;
+      bound = omega arith;
+      long = refl;
+      beyond = refl;
+      state = refl;
     }
 
 -- listing a window or not
@@ -128,8 +134,8 @@ unfolding sweepOne
 one-more P T x reach spent e w whole l r = r .result l
 
 module _ {P T : List ℤ} {kept : ℕ} {before after : List ℕ} {k reach spent found x e w : ℕ} {whole : Bool}
-         (i : SweptTo P T kept before after k reach spent found) (h : k < kept) (number : kept ≡ length (survivors P T))
-         (ex : x ≡ getD (survivors P T) k 0) (room : kept ≤ length before) (r : SweptOne P T x (max reach x) spent e w whole) (inside : x + length P ≤ length T) where
+    (i : SweptTo P T kept before after k reach spent found) (h : k < kept) (number : kept ≡ length (survivors P T))
+    (ex : x ≡ getD (survivors P T) k 0) (room : kept ≤ length before) (r : SweptOne P T x (max reach x) spent e w whole) (inside : x + length P ≤ length T) where
   pub next-swept : SweptTo P T kept before (cond whole (set after found x) after) (k + 1) e w (cond whole (found + 1) found)
   unfolding sweepAll
   next-swept =
@@ -144,11 +150,11 @@ module _ {P T : List ℤ} {kept : ℕ} {before after : List ℕ} {k reach spent 
         long = store-length after found x whole ∙ g;
         beyond = store-beyond after kept found x whole (omega arith) ∙ i .beyond;
         state =
-          ap₂ (λ xs l. sweepAll cost (testsOf P T) (length P) (drop xs (survivors P T)) (swept e w l)) (add-one k) (listed after found x whole in-buffer) ∙
-          ap (sweepAll cost (testsOf P T) (length P) (drop (suc k) (survivors P T))) (sym (one-more P T x reach spent e w whole (take found after) r)) ∙
-          ap (λ y. sweepAll cost (testsOf P T) (length P) (drop (suc k) (survivors P T)) (sweepOne cost (testsOf P T) (length P) y (swept reach spent (take found after)))) ex ∙
-          ap (λ xs. sweepAll cost (testsOf P T) (length P) xs (swept reach spent (take found after))) (sym (drop-cons (survivors P T) k 0 here)) ∙
-          i .state
+            ap₂ (λ xs l. sweepAll cost (testsOf P T) (length P) (drop xs (survivors P T)) (swept e w l)) (add-one k) (listed after found x whole in-buffer) ∙
+            ap (sweepAll cost (testsOf P T) (length P) (drop (suc k) (survivors P T))) (sym (one-more P T x reach spent e w whole (take found after) r)) ∙
+            ap (λ y. sweepAll cost (testsOf P T) (length P) (drop (suc k) (survivors P T)) (sweepOne cost (testsOf P T) (length P) y (swept reach spent (take found after)))) ex ∙
+            ap (λ xs. sweepAll cost (testsOf P T) (length P) xs (swept reach spent (take found after))) (sym (drop-cons (survivors P T) k 0 here)) ∙
+            i .state;
       }
 
 pub all-swept : {P T : List ℤ} {kept : ℕ} {before after : List ℕ} {k reach spent found : ℕ} → SweptTo P T kept before after k reach spent found → kept ≤ k → kept ≡ length (survivors P T)
@@ -160,11 +166,12 @@ all-swept {P} {T} {kept} {before} {after} {k} {reach} {spent} {found} i h number
       listed = ap (λ (s : Swept). s .listed) done;
       few = let f = i .few in let w = i .within in omega arith;
       beyond = i .beyond;
-      same-length = i .long
+      same-length = i .long;
     }
   where
     empty : drop k (survivors P T) ≡ []
     empty = let short : length (survivors P T) ≤ k = omega arith in drop-of-length-le (survivors P T) short
+
     done : swept reach spent (take found after) ≡ sweptBy cost P T
     done = ap (λ xs. sweepAll cost (testsOf P T) (length P) xs (swept reach spent (take found after))) (sym empty) ∙ i .state
 

@@ -9,7 +9,10 @@ use lib.ListN.{length, getD, take}
 use Rattle.order.specs.Sizes.{none, place, lowest, entry, patternLimit, traceLimit, windowsOf}
 use Rattle.order.specs.Refusals.{foreignAt}
 use Rattle.order.specs.Witnesses.{witnessI, witnessJ}
-use Rattle.order.specs.Duels.{survivors}
+use Rattle.order.specs.Duels.{duels, survivors}
+use Rattle.order.specs.Sweeping.{sweepCost, positions}
+use Rattle.order.specs.Written.{countsOf, over, filled}
+use Rattle.order.specs.declared.steps.Counts.{Counts}
 use Rattle.search.specs.Asked.{OwnNeighbours}
 
 -- a duel of window y with the one a before it, by the witness (i, j)
@@ -65,3 +68,36 @@ pub record FirstDifference (table own : List ℕ) (m r : ℕ) : Type 0 where
 -- r is the lowest entry of the four tables that is not the pattern's own, or the pattern's length
 pub record FirstForeign (P : List ℤ) (low high wi wj : List ℕ) (r : ℕ) : Type 0 where
   pub found : lowest (foreignAt P low high wi wj) (length P) ≡ cond (ltb r (length P)) (place r) none
+
+-- what the duels leave, written out
+pub record SurvivorsOf (P T : List ℤ) (before after : List ℕ) (kept fought : ℕ) : Type 0 where
+  pub number : kept ≡ length (survivors P T)
+  pub fought-is : fought ≡ duels P T
+  pub written : after ≡ over (filled (survivors P T) (windowsOf (length P) (length T))) before
+
+-- the survivors in their buffer, and room for a position of each window
+pub record Listable (P : List ℤ) (low high : List ℕ) (T : List ℤ) (buffer : List ℕ) (kept windows : ℕ) (before : List ℕ) : Type 0 where
+  pub sweeps : Sweeps P low high T buffer kept before
+  pub number : windows ≡ windowsOf (length P) (length T)
+  pub room : windows ≤ length before
+  pub few : kept ≤ windows
+
+-- what the sweep leaves, written out
+pub record PositionsOf (P T : List ℤ) (before after : List ℕ) (spent found : ℕ) : Type 0 where
+  pub spent-is : spent ≡ sweepCost P T
+  pub number : found ≡ length (positions P T)
+  pub written : after ≡ over (filled (positions P T) (windowsOf (length P) (length T))) before
+
+-- everything that a search checks before it stores
+pub record Searchable (P : List ℤ) (low high wi wj : List ℕ) (T : List ℤ) (survivors positions : ℕ) : Type 0 where
+  pub neighbours : OwnNeighbours P low high
+  pub witnesses : OwnWitnesses P wi wj
+  pub trace : length T ≤ traceLimit
+  pub survivors-room : windowsOf (length P) (length T) ≤ survivors
+  pub positions-room : windowsOf (length P) (length T) ≤ positions
+
+-- what a search leaves
+pub record SearchedOf (P T : List ℤ) (kept listed kept' listed' : List ℕ) (c : Counts) : Type 0 where
+  pub counts : c ≡ countsOf P T
+  pub survivors-written : kept' ≡ over (filled (survivors P T) (windowsOf (length P) (length T))) kept
+  pub positions-written : listed' ≡ over (filled (positions P T) (windowsOf (length P) (length T))) listed

@@ -6,3 +6,4 @@ pub mod Asked
 pub mod Inside
 pub mod Stacks
 pub mod Sweeps
+pub mod SearchPromise

@@ -11,7 +11,6 @@ use order::Offset;
 use order::Place;
 use order::Relation;
 use order::Window;
-
 ghost use mathlib.Core.Path.{_≡_};
 ghost use Prim.Native.Nat.{ℕ, _+_, _<_, _≤_};
 ghost use lib.ListN.{length, drop};
@@ -79,7 +78,14 @@ fn wide32(x: u32) -> usize
 }
 
 // What becomes of window x when the later window y looks at it.
-fn meet(pattern: &[i32], witness_i: &[u16], witness_j: &[u16], trace: &[i32], x: Window, y: Window) -> Meeting
+fn meet(
+    pattern: &[i32],
+    witness_i: &[u16],
+    witness_j: &[u16],
+    trace: &[i32],
+    x: Window,
+    y: Window,
+) -> Meeting
     requires { ⌜ Meetable (now pattern) (now «witness_i») (now «witness_j») (now trace) (x .0) (y .0) ⌝ }
     ensures { λ r. ⌜ r ≡ meets (now (pattern .entry)) (now (trace .entry)) (x .0) (y .0) ⌝ }
 {
@@ -97,7 +103,14 @@ fn meet(pattern: &[i32], witness_i: &[u16], witness_j: &[u16], trace: &[i32], x:
 }
 
 // All windows below `windows` arrive.
-pub(crate) fn duel_all(pattern: &[i32], witness_i: &[u16], witness_j: &[u16], trace: &[i32], windows: usize, survivors: &mut [u32]) -> Duelled
+pub(crate) fn duel_all(
+    pattern: &[i32],
+    witness_i: &[u16],
+    witness_j: &[u16],
+    trace: &[i32],
+    windows: usize,
+    survivors: &mut [u32],
+) -> Duelled
     requires { ⌜ Duels (now pattern) (now «witness_i») (now «witness_j») (now trace) windows (now survivors) ⌝ }
     ensures { λ r. ⌜ DuelsOf (now (pattern .entry)) (now (trace .entry)) windows (now (survivors .entry)) (now (survivors .exit)) (r .kept) (r .fought) ⌝ }
 {
@@ -112,7 +125,14 @@ pub(crate) fn duel_all(pattern: &[i32], witness_i: &[u16], witness_j: &[u16], tr
                 break Arrival::Pushed;
             }
             let x = wide32(survivors[kept - 1]);
-            match meet(pattern, witness_i, witness_j, trace, Window(x), Window(arriving)) {
+            match meet(
+                pattern,
+                witness_i,
+                witness_j,
+                trace,
+                Window(x),
+                Window(arriving),
+            ) {
                 Meeting::Agree => break Arrival::Pushed,
                 Meeting::OlderFalls => {
                     kept -= 1;

@@ -10,7 +10,7 @@ mod neighbours;
 mod own_tables;
 mod place_test;
 mod preparation;
-
+mod searching;
 mod sweep;
 mod unused_entries;
 mod windows;
@@ -20,5 +20,5 @@ pub use answers::Agreement;
 pub use answers::Prepared;
 pub use answers::Searched;
 pub use preparation::prepare;
-
+pub use searching::search;
 pub use windows::agree;

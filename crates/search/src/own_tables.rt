@@ -5,7 +5,6 @@
 
 use crate::preparation::write_tables;
 use order::PATTERN_LIMIT;
-
 ghost use mathlib.Core.Path.{_≡_};
 ghost use Prim.Native.Nat.{_≤_, min};
 ghost use lib.ListN.{length};
@@ -35,7 +34,13 @@ fn first_difference(table: &[u16], own: &[u16], m: usize) -> usize
 }
 
 // The lowest entry below m at which any of the four tables is not the pattern's own, or m.
-pub(crate) fn first_foreign(pattern: &[i32], low: &[u16], high: &[u16], witness_i: &[u16], witness_j: &[u16]) -> usize
+pub(crate) fn first_foreign(
+    pattern: &[i32],
+    low: &[u16],
+    high: &[u16],
+    witness_i: &[u16],
+    witness_j: &[u16],
+) -> usize
     requires { ⌜ Room (length (now pattern)) (length (now low)) (length (now high)) (length (now «witness_i»)) (length (now «witness_j»)) ⌝ }
     ensures { λ r. ⌜ FirstForeign (now (pattern .entry)) (now (low .entry)) (now (high .entry)) (now («witness_i» .entry)) (now («witness_j» .entry)) r ⌝ }
 {
@@ -45,7 +50,13 @@ pub(crate) fn first_foreign(pattern: &[i32], low: &[u16], high: &[u16], witness_
     let mut own_i = [0u16; PATTERN_LIMIT];
     let mut own_j = [0u16; PATTERN_LIMIT];
     write_tables(pattern, &mut own_low, &mut own_high, &mut own_i, &mut own_j);
-    let neighbours = smaller(first_difference(low, &own_low, m), first_difference(high, &own_high, m));
-    let witnesses = smaller(first_difference(witness_i, &own_i, m), first_difference(witness_j, &own_j, m));
+    let neighbours = smaller(
+        first_difference(low, &own_low, m),
+        first_difference(high, &own_high, m),
+    );
+    let witnesses = smaller(
+        first_difference(witness_i, &own_i, m),
+        first_difference(witness_j, &own_j, m),
+    );
     smaller(neighbours, witnesses)
 }

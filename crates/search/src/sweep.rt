@@ -4,11 +4,10 @@
 // Follows docs/RULES.md, "Sweep" (Jargalsaikhan 2022, section 3, counted from zero). E only rises and each survivor fails at
 // most once, so the sweep spends at most 2(n + S) comparisons. Callers hand over the pattern's own tables and its survivors.
 
+use crate::place_test::test_place;
 use order::Place;
 use order::Tested;
 use order::Window;
-use crate::place_test::test_place;
-
 ghost use mathlib.Core.Path.{_≡_};
 ghost use mathlib.Core.Bool.{cond};
 ghost use Prim.Native.Nat.{ℕ, _+_, _<_, _≤_, max};
@@ -42,7 +41,15 @@ fn larger(a: usize, b: usize) -> usize
 }
 
 // The tests of survivor x from the sample `from` on.
-fn sweep_one(pattern: &[i32], low: &[u16], high: &[u16], trace: &[i32], x: Window, from: usize, before: u32) -> Reached
+fn sweep_one(
+    pattern: &[i32],
+    low: &[u16],
+    high: &[u16],
+    trace: &[i32],
+    x: Window,
+    from: usize,
+    before: u32,
+) -> Reached
     requires { ⌜ Sweepable (now pattern) (now low) (now high) (now trace) (x .0) from before ⌝ }
     ensures { λ r. ⌜ SweptOne (now (pattern .entry)) (now (trace .entry)) (x .0) from before (r .reach) (r .spent) (r .whole) ⌝ }
 {
@@ -86,7 +93,15 @@ fn list_one(positions: &mut [u32], found: usize, x: u32, whole: bool) -> usize
 }
 
 // All survivors, the first `kept` entries of their buffer.
-pub(crate) fn sweep_all(pattern: &[i32], low: &[u16], high: &[u16], trace: &[i32], survivors: &[u32], kept: usize, positions: &mut [u32]) -> Swept
+pub(crate) fn sweep_all(
+    pattern: &[i32],
+    low: &[u16],
+    high: &[u16],
+    trace: &[i32],
+    survivors: &[u32],
+    kept: usize,
+    positions: &mut [u32],
+) -> Swept
     requires { ⌜ Sweeps (now pattern) (now low) (now high) (now trace) (now survivors) kept (now positions) ⌝ }
     ensures { λ r. ⌜ SweepOf (now (pattern .entry)) (now (trace .entry)) kept (now (positions .entry)) (now (positions .exit)) (r .spent) (r .found) ⌝ }
 {
@@ -97,7 +112,15 @@ pub(crate) fn sweep_all(pattern: &[i32], low: &[u16], high: &[u16], trace: &[i32
     while k < kept {
         let x = survivors[k];
         let start = wide32(x);
-        let end = sweep_one(pattern, low, high, trace, Window(start), larger(reach, start), spent);
+        let end = sweep_one(
+            pattern,
+            low,
+            high,
+            trace,
+            Window(start),
+            larger(reach, start),
+            spent,
+        );
         reach = end.reach;
         spent = end.spent;
         found = list_one(positions, found, x, end.whole);

@@ -3,7 +3,6 @@
 // Follows docs/RULES.md, "What is written". One store an entry. Callers hand over a buffer that reaches that far.
 
 use order::UNUSED;
-
 ghost use mathlib.Core.Path.{_≡_};
 ghost use mathlib.Core.List.{_++_};
 ghost use Prim.Native.Nat.{_-_, _≤_};

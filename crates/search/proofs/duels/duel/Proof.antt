@@ -52,7 +52,7 @@ same-requires-2 c κs = search needs
 -- who falls, by what the two tests came to
 told : (c : tie.After-same2) (t u : Bool) → c .before .before .same .result ≡ t → c .same2 .result ≡ u →
     fallen t u ≡ duelOf (now (c .before .before .before .before .before .args .pattern)) (now (c .before .before .before .before .before .args .trace))
-        (c .before .before .before .before .before .args .y .0) (c .before .before .before .before .before .args .a .0) (c .before .before .before .before .before .args .i .0) (c .before .before .before .before .before .args .j .0)
+    (c .before .before .before .before .before .args .y .0) (c .before .before .before .before .before .args .a .0) (c .before .before .before .before .before .args .i .0) (c .before .before .before .before .before .args .j .0)
 told c t u p q =
     duel-told _ _ _ _ _ _ t u
     (c .before .before .before .before .compare-at .ensures)

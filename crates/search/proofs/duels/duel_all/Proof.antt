@@ -66,7 +66,7 @@ meet-requires c κs =
     record {
       own = s .pre .own;
       later = omega arith;
-      inside = inside (length (now (s .args .pattern))) (length (now (s .args .trace))) (s .args .windows) (w .windows .y) (s .pre .number) (l .before .windows-test .taken)
+      inside = inside (length (now (s .args .pattern))) (length (now (s .args .trace))) (s .args .windows) (w .windows .y) (s .pre .number) (l .before .windows-test .taken);
     }
 
 enum-told : tie.Need-enum-told Inv-loop μ-loop Inv-windows μ-windows
@@ -112,7 +112,7 @@ enum-told-6 c = search needs
 -- where the breaks meet, the arrival has settled
 settled : (c : tie.Joined1 Inv-loop μ-loop Inv-windows μ-windows) →
     Settled (now (c .before .before .before .before .before .before .before .args .pattern)) (now (c .before .before .before .before .before .before .before .args .trace)) (c .before .before .before .windows .survivors) (c .before .before .before .windows .y) (c .before .before .before .windows .kept) (c .before .before .before .windows .fought)
-        (c .if1 .kept) (c .if1 .fought) (c .if1 .end)
+    (c .if1 .kept) (c .if1 .fought) (c .if1 .end)
 settled c =
     let i = c .before .loop .inv in
     ⊎-elim

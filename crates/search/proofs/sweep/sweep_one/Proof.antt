@@ -60,7 +60,7 @@ test-place-requires c κs =
       inside = h;
       reach = omega arith;
       low-own = o .low-own (l .loop .reach - s .args .x .0) h;
-      high-own = o .high-own (l .loop .reach - s .args .x .0) h
+      high-own = o .high-own (l .loop .reach - s .args .x .0) h;
     }
 
 -- src/sweep.rt:56:28

@@ -1,0 +1,176 @@
+-- Shows: an accepted search has all that its work asks; what the work leaves meets the search's promise, the demands on the answer
+-- among it; and no second answer, nor other content of a buffer, satisfies the promise.
+-- Assumes nothing.
+use Prim.Native.Nat.{ℕ, _+_, _-_, _≤_, _<_}
+use mathlib.Core.Path.{_≡_, refl, sym, _∙_, ap, ap₂, subst, subst₂, subst₃}
+use mathlib.Core.List.{List, _++_}
+use mathlib.Core.Bool.{Bool, true, false, not, _||_}
+use native.Mathlib.Omega.{arith}
+use lib.Dec.{ltb, eqb}
+use lib.IntN.{ℤ}
+use lib.ListN.{length, getD, take}
+use lib.Seq.{take-at}
+use borrow.Author.Tests.{ltb-false}
+use Rattle.order.specs.declared.refusal.Refusal.{Refusal}
+use Rattle.order.specs.declared.steps.Counts.{Counts}
+use Rattle.order.specs.Sizes.{Spot, none, place, entry, lowest, patternLimit, traceLimit, windowsOf}
+use Rattle.order.specs.Neighbours.{lowOf, highOf}
+use Rattle.order.specs.Witnesses.{witnessI, witnessJ}
+use Rattle.order.specs.Duels.{survivors}
+use Rattle.order.specs.Sweeping.{positions}
+use Rattle.order.specs.Written.{countsOf, over, filled}
+use Rattle.order.specs.Demands.{Demands}
+use Rattle.order.specs.Refusals.{Verdict, accepted, refused, refuse, roomVerdict, ownVerdict, foreignAt, patternVerdict, tablesVerdict, witnessesVerdict, searchVerdict}
+use Rattle.order.proofs.Tests.{clash, or-neither-first, or-neither-second}
+use Rattle.order.proofs.Lists.{Finds, lowest-finds}
+use Rattle.order.proofs.Dueling.{duels-and-survivors}
+use Rattle.order.proofs.Whole.{demands-hold}
+use Rattle.search.specs.declared.checks.Checked.the-variants.{Fine, Refused}
+use Rattle.search.specs.declared.answers.Searched.{Searched}
+use Rattle.search.specs.declared.answers.Searched.the-variants.{Done, Refused as NotSearched}
+use Rattle.search.specs.Answers.{checkedBy, verdictNumber, verdictPlace, afterVerdict}
+use Rattle.search.specs.Asked.{OwnNeighbours}
+use Rattle.search.specs.Inside.{OwnWitnesses, Searchable, SearchedOf}
+use Rattle.search.specs.SearchPromise.{SearchPromise, searchedNumber, searchedPlace, searchedBy}
+use Rattle.search.proofs.Verdicts.{fine-accepted, refused-why, pattern-passed, tables-passed}
+use Rattle.search.proofs.ForeignEntries.{passes-same}
+use Rattle.search.proofs.WrittenOut.{filled-over, positions-few}
+
+-- ---- what an accepted search has
+
+refuse-passed : (b : Bool) (r : Refusal) (next : Verdict) → refuse b r next ≡ accepted → (b ≡ false) × (next ≡ accepted)
+refuse-passed true r next e = absurd (let z : _≡_ {A = ℕ} 0 1 = cc in omega arith)
+refuse-passed false r next e = (refl, e)
+
+room-passed : (m n survivors positions : ℕ) (next : Verdict) → roomVerdict m n survivors positions next ≡ accepted
+    → (n ≤ traceLimit) × (windowsOf m n ≤ survivors) × (windowsOf m n ≤ positions) × (next ≡ accepted)
+unfolding roomVerdict
+room-passed m n survivors positions next e =
+    let a = refuse-passed (ltb traceLimit n) _ _ e in
+    let b = refuse-passed (ltb survivors (windowsOf m n)) _ _ (a .1) in
+    let c = refuse-passed (ltb positions (windowsOf m n)) _ _ (b .1) in
+    (ltb-false traceLimit n (a .0), ltb-false survivors (windowsOf m n) (b .0), ltb-false positions (windowsOf m n) (c .0), c .1)
+
+own-passed : (s : Spot) → ownVerdict s ≡ accepted → s ≡ none
+unfolding ownVerdict
+own-passed none e = refl
+own-passed (place k) e = absurd (let z : _≡_ {A = ℕ} 0 1 = cc in omega arith)
+
+-- no entry is foreign: every table is the pattern's own
+module _ (P : List ℤ) (low high wi wj : List ℕ) (e : lowest (foreignAt P low high wi wj) (length P) ≡ none) where
+  passed : (k : ℕ) → k < length P → foreignAt P low high wi wj k ≡ false
+  passed = subst (Finds (foreignAt P low high wi wj) (length P)) e (lowest-finds (foreignAt P low high wi wj) (length P))
+
+  abbrev off-low : ℕ → Bool
+  off-low k = not (eqb (getD low k 0) (entry (lowOf P k)))
+
+  abbrev off-high : ℕ → Bool
+  off-high k = not (eqb (getD high k 0) (entry (highOf P k)))
+
+  abbrev off-i : ℕ → Bool
+  off-i k = not (eqb (getD wi k 0) (entry (witnessI P k)))
+
+  abbrev off-j : ℕ → Bool
+  off-j k = not (eqb (getD wj k 0) (entry (witnessJ P k)))
+
+  low-own : (k : ℕ) → k < length P → getD low k 0 ≡ entry (lowOf P k)
+  unfolding foreignAt
+  low-own k h = passes-same low (λ k. entry (lowOf P k)) k (or-neither-first (off-low k) (off-high k || (off-i k || off-j k)) (passed k h))
+
+  rest : (k : ℕ) → k < length P → (off-high k || (off-i k || off-j k)) ≡ false
+  unfolding foreignAt
+  rest k h = or-neither-second (off-low k) (off-high k || (off-i k || off-j k)) (passed k h)
+
+  high-own : (k : ℕ) → k < length P → getD high k 0 ≡ entry (highOf P k)
+  high-own k h = passes-same high (λ k. entry (highOf P k)) k (or-neither-first (off-high k) (off-i k || off-j k) (rest k h))
+
+  i-own : (k : ℕ) → k < length P → getD wi k 0 ≡ entry (witnessI P k)
+  i-own k h = passes-same wi (λ k. entry (witnessI P k)) k (or-neither-first (off-i k) (off-j k) (or-neither-second (off-high k) (off-i k || off-j k) (rest k h)))
+
+  j-own : (k : ℕ) → k < length P → getD wj k 0 ≡ entry (witnessJ P k)
+  j-own k h = passes-same wj (λ k. entry (witnessJ P k)) k (or-neither-second (off-i k) (off-j k) (or-neither-second (off-high k) (off-i k || off-j k) (rest k h)))
+
+tables-next : (m low high wi wj : ℕ) (next : Verdict) → tablesVerdict m low high wi wj next ≡ accepted → next ≡ accepted
+unfolding tablesVerdict witnessesVerdict
+tables-next m low high wi wj next e =
+    let a = refuse-passed (ltb low m) _ _ e in
+    let b = refuse-passed (ltb high m) _ _ (a .1) in
+    let c = refuse-passed (ltb wi m) _ _ (b .1) in
+    refuse-passed (ltb wj m) _ _ (c .1) .1
+
+pub search-ready : (P : List ℤ) (low high wi wj : List ℕ) (T : List ℤ) (s p : ℕ) → searchVerdict P low high wi wj T s p ≡ accepted → Searchable P low high wi wj T s p
+unfolding searchVerdict
+search-ready P low high wi wj T s p e =
+    let a = pattern-passed (length P) _ e in
+    let b = tables-passed (length P) (length low) (length high) (length wi) (length wj) _ (a .1) in
+    let c = room-passed (length P) (length T) s p _ (tables-next (length P) (length low) (length high) (length wi) (length wj) _ (a .1)) in
+    let o = own-passed (lowest (foreignAt P low high wi wj) (length P)) (c .3) in
+    record {
+      neighbours = record { limit = a .0; low-room = b .0; high-room = b .1; low-own = low-own P low high wi wj o; high-own = high-own P low high wi wj o };
+      witnesses = record { limit = a .0; i-long = b .2; j-long = b .3; i-own = i-own P low high wi wj o; j-own = j-own P low high wi wj o };
+      trace = c .0;
+      survivors-room = c .1;
+      positions-room = c .2;
+    }
+
+-- ---- the promise
+
+-- the list at the front of what is written
+front : (l before : List ℕ) (n : ℕ) {after : List ℕ} → length l ≤ n → after ≡ over (filled l n) before → take (length l) after ≡ l
+front l before n h e = ap (take (length l)) (e ∙ filled-over l before n h) ∙ take-at l _ (length l) refl
+
+module _ (P : List ℤ) (low high wi wj : List ℕ) (T : List ℤ) (kept listed : List ℕ) where
+  abbrev verdict : Verdict
+  verdict = searchVerdict P low high wi wj T (length kept) (length listed)
+
+  pub search-refused : (why : Refusal) → Refused why ≡ checkedBy verdict → SearchPromise P low high wi wj T kept listed (NotSearched why) kept listed
+  search-refused why e =
+      let w = refused-why verdict why e in
+      record {
+        number = rw w refl;
+        place = rw w refl;
+        answer = rw w refl;
+        survivors-after = rw w refl;
+        positions-after = rw w refl;
+        demands = λ c d. absurd (let z : _≡_ {A = ℕ} 0 1 = cc in omega arith);
+      }
+
+  pub search-done : {kept' listed' : List ℕ} {c : Counts} → Fine ≡ checkedBy verdict → SearchedOf P T kept listed kept' listed' c → SearchPromise P low high wi wj T kept listed (Done c) kept' listed'
+  unfolding countsOf
+  search-done {kept'} {listed'} {c} e s =
+      let w = fine-accepted verdict e in
+      record {
+        number = rw w refl;
+        place = rw w refl;
+        answer = rw w (ap Done (s .counts));
+        survivors-after = rw w (s .survivors-written);
+        positions-after = rw w (s .positions-written);
+        demands = λ d g. answered d (sym (same d g) ∙ s .counts);
+      }
+    where
+      same : (d : Counts) → Done c ≡ Done d → c ≡ d
+      same d g = cc
+
+      few : length (survivors P T) ≤ windowsOf (length P) (length T)
+      few = let a = duels-and-survivors P T in omega arith
+
+      answered : (d : Counts) → d ≡ countsOf P T → Demands P T (take (d .survivors) kept') (take (d .found) listed') d
+      answered d g =
+          subst₃ (λ (k l : List ℕ) (c : Counts). Demands P T k l c)
+          (sym (ap (λ (c : Counts). take (c .survivors) kept') g ∙ kept-are))
+          (sym (ap (λ (c : Counts). take (c .found) listed') g ∙ listed-are))
+          (sym g)
+          (demands-hold P T)
+        where
+          kept-are : take (countsOf P T .survivors) kept' ≡ survivors P T
+          kept-are = front (survivors P T) kept (windowsOf (length P) (length T)) few (s .survivors-written)
+
+          listed-are : take (countsOf P T .found) listed' ≡ positions P T
+          listed-are = front (positions P T) listed (windowsOf (length P) (length T)) (positions-few P T) (s .positions-written)
+
+  -- no second answer, and no other content of a buffer
+  pub search-only-answer : {r s : Searched} {kept₁ listed₁ kept₂ listed₂ : List ℕ}
+      → SearchPromise P low high wi wj T kept listed r kept₁ listed₁ → SearchPromise P low high wi wj T kept listed s kept₂ listed₂
+      → (r ≡ s) × (kept₁ ≡ kept₂) × (listed₁ ≡ listed₂)
+  search-only-answer p q =
+      (p .answer ∙ sym (q .answer), p .survivors-after ∙ sym (q .survivors-after), p .positions-after ∙ sym (q .positions-after))
