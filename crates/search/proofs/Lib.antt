@@ -8,3 +8,5 @@ pub mod Comparing
 pub mod TestByEntries
 pub mod Offsets
 pub mod OwnTables
+pub mod Stretches
+pub mod Turns

@@ -3,9 +3,10 @@
 -- Assumes nothing.
 use mathlib.Core.Path.{_≡_, refl}
 use mathlib.Core.Bool.{Bool, true, false}
-use Prim.Native.Nat.{ℕ, _≤_}
+use Prim.Native.Nat.{ℕ, _≤_, _<_}
+use native.Mathlib.Nat.{pos-of-ne-zero}
 use lib.Dec.{ltb, eqb}
-use borrow.Author.Tests.{ltb-false}
+use borrow.Author.Tests.{eqb-false, ltb-false}
 use Rattle.order.specs.declared.refusal.Table.the-variants.{Low, High, WitnessI, WitnessJ}
 use Rattle.order.specs.declared.refusal.Refusal.{Refusal}
 use Rattle.order.specs.declared.refusal.Refusal.the-variants.{EmptyPattern, LongPattern, ShortTable}
@@ -52,12 +53,13 @@ passed : (b : Bool) (r : Refusal) (next : Verdict) → refuse b r next ≡ accep
 passed true r next e = (cc, cc)
 passed false r next e = (refl, e)
 
-pub pattern-passed : (m : ℕ) (next : Verdict) → patternVerdict m next ≡ accepted → (m ≤ patternLimit) × (next ≡ accepted)
+pub pattern-passed : (m : ℕ) (next : Verdict) → patternVerdict m next ≡ accepted → (0 < m) × (m ≤ patternLimit) × (next ≡ accepted)
 unfolding patternVerdict
 pattern-passed m next e =
     let a = passed (eqb m 0) EmptyPattern (refuse (ltb patternLimit m) (LongPattern m) next) e in
     let b = passed (ltb patternLimit m) (LongPattern m) next (a .1) in
-    (ltb-false patternLimit m (b .0), b .1)
+    let f : m ≡ 0 → ⊥ = eqb-false m 0 (a .0) in
+    (pos-of-ne-zero f, ltb-false patternLimit m (b .0), b .1)
 
 pub witnesses-passed : (m wi wj : ℕ) (next : Verdict) → witnessesVerdict m wi wj next ≡ accepted → (m ≤ wi) × (m ≤ wj) × (next ≡ accepted)
 unfolding witnessesVerdict
@@ -80,11 +82,11 @@ pub prepare-room : (m low high wi wj : ℕ) → prepareVerdict m low high wi wj 
 unfolding prepareVerdict
 prepare-room m low high wi wj e =
     let p = pattern-passed m (tablesVerdict m low high wi wj accepted) e in
-    let t = tables-passed m low high wi wj accepted (p .1) in
-    record { limit = p .0; low-room = t .0; high-room = t .1; witness-i-room = t .2; witness-j-room = t .3 }
+    let t = tables-passed m low high wi wj accepted (p .2) in
+    record { some = p .0; limit = p .1; low-room = t .0; high-room = t .1; witness-i-room = t .2; witness-j-room = t .3 }
 
 pub agree-room : (m wi wj : ℕ) → agreeVerdict m wi wj ≡ accepted → m ≤ wi
 unfolding agreeVerdict
 agree-room m wi wj e =
     let p = pattern-passed m (witnessesVerdict m wi wj accepted) e in
-    witnesses-passed m wi wj accepted (p .1) .0
+    witnesses-passed m wi wj accepted (p .2) .0
