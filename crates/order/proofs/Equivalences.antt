@@ -39,3 +39,7 @@ module _ {A : Type 0} {R : List A → List A → Type 0} (E : PartsInherit R) wh
       (take-drop-take (k - a) a k P (omega arith))
       (take-drop-take (k - a) a k (drop x T) (omega arith) ∙ ap (take (k - a)) (drop-drop a x T))
       (E .part a (k - a) p))
+
+  -- the same of windows x, y and z
+  pub chain-windows : (P : List A) (x y z : ℕ) → x ≤ y → y ≤ z → SelfAgree R P (y - x) → SelfAgree R P (z - y) → SelfAgree R P (z - x)
+  chain-windows P x y z h k p q = let same : y - x + (z - y) ≡ z - x = omega arith in rw same at (chain P (y - x) (z - y) p q)

@@ -15,6 +15,7 @@ use Rattle.order.specs.Isomorphic.{allBelow, isIso}
 use Rattle.order.specs.Neighbours.{nearer, nearest, lowOf, highOf, lowTable, highTable}
 use Rattle.order.specs.PlaceTest.{matches, sameSpot, against, thenHigh, testOf, passes, cost, failedAt}
 use Rattle.order.specs.Witnesses.{firstFail, neighbourAt, witnessI, witnessJ, witnessITable, witnessJTable}
+use Rattle.order.specs.Agree.{agree, isNone}
 use Rattle.order.specs.Duels.{fallen, duel, byWitness, meets, after, arrive, arriveAll, entrants, duelled, duels, survivors}
 use Rattle.order.specs.Sweeping.{onTest, tests, sweepOne, sweepAll, testsOf, sweptBy, sweepCost, positions}
 use Rattle.order.specs.Written.{occurrences}
@@ -77,5 +78,5 @@ examples =
     []
 
 pub examples-come-out : allRight examples ≡ true
-unfolding allRight right examples sameList entry windowsOf each those lowest orElse rel allBelow isIso nearer nearest lowOf highOf lowTable highTable matches sameSpot against thenHigh testOf passes cost failedAt firstFail neighbourAt witnessI witnessJ witnessITable witnessJTable fallen duel byWitness meets after arrive arriveAll entrants duelled duels survivors onTest tests sweepOne sweepAll testsOf sweptBy sweepCost positions occurrences
+unfolding agree isNone allRight right examples sameList entry windowsOf each those lowest orElse rel allBelow isIso nearer nearest lowOf highOf lowTable highTable matches sameSpot against thenHigh testOf passes cost failedAt firstFail neighbourAt witnessI witnessJ witnessITable witnessJTable fallen duel byWitness meets after arrive arriveAll entrants duelled duels survivors onTest tests sweepOne sweepAll testsOf sweptBy sweepCost positions occurrences
 examples-come-out = refl

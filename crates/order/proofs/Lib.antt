@@ -8,3 +8,7 @@ pub mod Isomorphisms
 pub mod Nearest
 pub mod PlaceTests
 pub mod Witnessing
+pub mod Meetings
+pub mod Dueling
+pub mod SweepLaws
+pub mod Whole

@@ -4,7 +4,7 @@
 use Prim.Native.Nat.{ℕ, zero, suc, _+_, _-_, _≤_, _<_}
 use mathlib.Core.Path.{_≡_, refl, sym, _∙_, ap, subst}
 use mathlib.Core.Logic.{_⊎_, inl, inr, ⊎-elim}
-use mathlib.Core.List.{List, [], _∷_, _++_, reverse, append-assoc, List·Memᴰ, List·Memᴰ·head, List·Memᴰ·tail}
+use mathlib.Core.List.{List, [], _∷_, _++_, reverse, append-assoc, append-nil, reverseAux-eq, List·Memᴰ, List·Memᴰ·head, List·Memᴰ·tail, List·Memᴰ·not-nil, List·Memᴰ·append-cases, List·Memᴰ·eq-of-singleton, Memᴰ·append-left, Memᴰ·append-right}
 use mathlib.Core.Bool.{Bool, true, false, cond}
 use native.Mathlib.Omega.{arith}
 use native.Mathlib.Numerals.{add-one}
@@ -101,3 +101,115 @@ finds-one p n (place i) (place j) f g = ap place (go (leb i j) (leb j i) refl re
 
 pub finds-lowest : (p : ℕ → Bool) (n : ℕ) (s : Spot) → Finds p n s → lowest p n ≡ s
 finds-lowest p n s f = finds-one p n (lowest p n) s (lowest-finds p n) f
+
+-- ---- lists of windows
+
+-- the numbers of a list that pass a test
+unfoldable pub passing : (ℕ → Bool) → List ℕ → List ℕ
+passing p [] = []
+passing p (x ∷ xs) = cond (p x) (x ∷ []) [] ++ passing p xs
+
+pub passing-append : (p : ℕ → Bool) (xs ys : List ℕ) → passing p (xs ++ ys) ≡ passing p xs ++ passing p ys
+unfolding passing
+passing-append p [] ys = refl
+passing-append p (x ∷ xs) ys =
+    ap (λ l. cond (p x) (x ∷ []) [] ++ l) (passing-append p xs ys) ∙ sym (append-assoc (cond (p x) (x ∷ []) []) (passing p xs) (passing p ys))
+
+pub passing-one : (p : ℕ → Bool) (x : ℕ) → passing p (x ∷ []) ≡ cond (p x) (x ∷ []) []
+unfolding passing
+passing-one p x = append-nil (cond (p x) (x ∷ []) [])
+
+pub passing-none : (p : ℕ → Bool) (x : ℕ) → p x ≡ false → passing p (x ∷ []) ≡ []
+passing-none p x e = passing-one p x ∙ ap (λ t. cond t (x ∷ []) []) e
+
+pub reverse-cons : (x : ℕ) (xs : List ℕ) → reverse (x ∷ xs) ≡ reverse xs ++ (x ∷ [])
+reverse-cons x xs = reverseAux-eq xs (x ∷ [])
+
+-- the top of a stack comes last
+pub passing-top : (p : ℕ → Bool) (x : ℕ) (xs : List ℕ) → passing p (reverse (x ∷ xs)) ≡ passing p (reverse xs) ++ passing p (x ∷ [])
+passing-top p x xs = ap (passing p) (reverse-cons x xs) ∙ passing-append p (reverse xs) (x ∷ [])
+
+pub passing-top-none : (p : ℕ → Bool) (x : ℕ) (xs : List ℕ) → p x ≡ false → passing p (reverse (x ∷ xs)) ≡ passing p (reverse xs)
+passing-top-none p x xs e = passing-top p x xs ∙ ap (λ l. passing p (reverse xs) ++ l) (passing-none p x e) ∙ append-nil (passing p (reverse xs))
+
+-- membership in a list turned round
+pub mem-reverse : {z : ℕ} (xs : List ℕ) → List·Memᴰ z (reverse xs) → List·Memᴰ z xs
+mem-reverse [] h = h
+mem-reverse {z} (x ∷ xs) h =
+    ⊎-elim
+    (λ (k : List·Memᴰ z (reverse xs)). List·Memᴰ·tail (mem-reverse xs k))
+    (λ (k : List·Memᴰ z (x ∷ [])). List·Memᴰ·head (List·Memᴰ·eq-of-singleton k))
+    (List·Memᴰ·append-cases (reverse xs) (subst (List·Memᴰ z) (reverse-cons x xs) h))
+
+-- what passes is in the list
+pub mem-passing : {z : ℕ} (p : ℕ → Bool) (xs : List ℕ) → List·Memᴰ z (passing p xs) → List·Memᴰ z xs
+unfolding passing
+mem-passing p [] h = h
+mem-passing {z} p (x ∷ xs) h =
+    ⊎-elim
+    (λ (k : List·Memᴰ z (cond (p x) (x ∷ []) [])). go (p x) k)
+    (λ (k : List·Memᴰ z (passing p xs)). List·Memᴰ·tail (mem-passing p xs k))
+    (List·Memᴰ·append-cases (cond (p x) (x ∷ []) []) h)
+  where
+    go : (t : Bool) → List·Memᴰ z (cond t (x ∷ []) []) → List·Memᴰ z (x ∷ xs)
+    go true k = List·Memᴰ·head (List·Memᴰ·eq-of-singleton k)
+    go false k = absurd (List·Memᴰ·not-nil k)
+
+-- ---- the numbers below n that pass a test
+
+pub those-suc : (p : ℕ → Bool) (n : ℕ) → those p (suc n) ≡ those p n ++ cond (p n) (n ∷ []) []
+unfolding those
+those-suc p n = refl
+
+-- they are exactly those numbers
+pub mem-those : {z : ℕ} (p : ℕ → Bool) (n : ℕ) → List·Memᴰ z (those p n) → (z < n) × (p z ≡ true)
+unfolding those
+mem-those p zero h = absurd (List·Memᴰ·not-nil h)
+mem-those {z} p (suc n) h =
+    ⊎-elim
+    (λ (k : List·Memᴰ z (those p n)). let e = mem-those p n k in let b : z < n = e .0 in ((omega arith), e .1))
+    (λ (k : List·Memᴰ z (cond (p n) (n ∷ []) [])). go (p n) refl k)
+    (List·Memᴰ·append-cases (those p n) h)
+  where
+    go : (t : Bool) → p n ≡ t → List·Memᴰ z (cond t (n ∷ []) []) → (z < suc n) × (p z ≡ true)
+    go true e k = let same : z ≡ n = List·Memᴰ·eq-of-singleton k in ((omega arith), rw same e)
+    go false e k = absurd (List·Memᴰ·not-nil k)
+
+pub those-mem : (p : ℕ → Bool) (n z : ℕ) → z < n → p z ≡ true → List·Memᴰ z (those p n)
+unfolding those
+those-mem p zero z h e = absurd (omega arith)
+those-mem p (suc n) z h e =
+    ⊎-elim
+    (λ (k : z ≡ n). Memᴰ·append-right (those p n) (rw (← k, e) (List·Memᴰ·head refl)))
+    (λ (k : z < n). Memᴰ·append-left _ (those-mem p n z k e))
+    (eq-or-lt-of-le (le-of-suc-le-suc h))
+
+-- all of them, where all pass
+pub length-all : (n : ℕ) → length (those (λ x. true) n) ≡ n
+unfolding those
+length-all zero = refl
+length-all (suc n) = length-append (those (λ x. true) n) (n ∷ []) ∙ ap (λ k. k + 1) (length-all n) ∙ add-one n
+
+-- ascending, once each
+abbrev pub Ascending : List ℕ → Type 0
+Ascending [] = Unit {0}
+Ascending (x ∷ xs) = ((z : ℕ) → List·Memᴰ z xs → x < z) × Ascending xs
+
+pub ascending-more : (xs : List ℕ) (y : ℕ) → Ascending xs → ((z : ℕ) → List·Memᴰ z xs → z < y) → Ascending (xs ++ (y ∷ []))
+ascending-more [] y a f = ((λ z h. absurd (List·Memᴰ·not-nil h)), tt)
+ascending-more (x ∷ xs) y a f =
+    ((λ z h.
+      ⊎-elim
+      (λ (k : List·Memᴰ z xs). a .0 z k)
+      (λ (k : List·Memᴰ z (y ∷ [])). rw (List·Memᴰ·eq-of-singleton k) (f x (List·Memᴰ·head refl)))
+      (List·Memᴰ·append-cases xs h)),
+    ascending-more xs y (a .1) (λ z h. f z (List·Memᴰ·tail h)))
+
+pub those-ascend : (p : ℕ → Bool) (n : ℕ) → Ascending (those p n)
+unfolding those
+those-ascend p zero = tt
+those-ascend p (suc n) = go (p n) (those-ascend p n)
+  where
+    go : (t : Bool) → Ascending (those p n) → Ascending (those p n ++ cond t (n ∷ []) [])
+    go true earlier = ascending-more (those p n) n earlier (λ z h. mem-those p n h .0)
+    go false earlier = rw append-nil earlier

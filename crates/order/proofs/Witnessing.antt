@@ -5,13 +5,14 @@
 use Prim.Native.Nat.{ℕ, zero, _+_, _-_, _≤_, _<_}
 use mathlib.Core.Path.{_≡_, refl, sym, _∙_, ap, ap₂, subst}
 use mathlib.Core.List.{List}
-use mathlib.Core.Bool.{Bool, true, false, not}
+use mathlib.Core.Bool.{Bool, true, false, not, _||_, or-true}
+use lib.Dec.{leb}
 use native.Mathlib.Omega.{arith}
 use lib.IntN.{ℤ, pos}
 use lib.ListN.{length, take, drop, length-drop}
 use lib.Seq.{getD-drop, take-all}
 use lib.Signed.{leZ}
-use borrow.Author.Tests.{not-true, not-false}
+use borrow.Author.Tests.{not-true, not-false, leb-true}
 use Rattle.order.specs.Sizes.{Spot, none, place, at, lowest}
 use Rattle.order.specs.Relations.{rel}
 use Rattle.order.specs.Isomorphic.{Iso}
@@ -21,6 +22,8 @@ use Rattle.order.specs.Witnesses.{firstFail, neighbourAt, witnessI, witn
 use Rattle.order.proofs.Tests.{clash}
 use Rattle.order.proofs.Orders.{alike-tests, same-tests-alike}
 use Rattle.order.proofs.Lists.{Lowest, Finds, lowest-finds, finds-lowest}
+use Rattle.order.specs.Agree.{agree, isNone}
+use Rattle.order.proofs.Equivalences.{far-apart}
 use Rattle.order.proofs.Isomorphisms.{iso-inherits}
 use Rattle.order.proofs.PlaceTests.{AllPass, tests-iso, iso-tests, FailsAt, fails-at}
 
@@ -106,3 +109,17 @@ witness-is P a j e =
 pub none-together : (P : List ℤ) (a : ℕ) → witnessJ P a ≡ none → witnessI P a ≡ none
 unfolding witnessI neighbourAt
 none-together P a e = rw e refl
+
+-- windows agree exactly if the pattern agrees with itself at their distance
+pub agree-self : (P : List ℤ) (x y : ℕ) → agree P x y ≡ true → SelfAgree Iso P (y - x)
+unfolding agree isNone
+agree-self P x y e = go (leb (length P) (y - x)) refl (witnessJ P (y - x)) refl e
+  where
+    go : (t : Bool) → leb (length P) (y - x) ≡ t → (s : Spot) → witnessJ P (y - x) ≡ s → (t || isNone s) ≡ true → SelfAgree Iso P (y - x)
+    go true l s w d = far-apart iso-inherits P (y - x) (leb-true (length P) (y - x) l)
+    go false l none w d = none-agree P (y - x) w
+    go false l (place j) w d = clash d refl
+
+pub self-agree : (P : List ℤ) (x y : ℕ) → SelfAgree Iso P (y - x) → agree P x y ≡ true
+unfolding agree isNone
+self-agree P x y e = rw (agree-none P (y - x) e) (or-true (leb (length P) (y - x)))

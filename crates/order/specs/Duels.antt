@@ -3,7 +3,6 @@
 use Prim.Native.Nat.{ℕ, _+_, _-_}
 use mathlib.Core.List.{List, [], _∷_, reverse}
 use mathlib.Core.Bool.{Bool, true, false, cond}
-use lib.Dec.{leb}
 use lib.IntN.{ℤ}
 use lib.ListN.{length}
 use Rattle.order.specs.declared.steps.Meeting.{Meeting}
@@ -11,6 +10,7 @@ use Rattle.order.specs.declared.steps.Meeting.the-variants.{Agree, Older
 use Rattle.order.specs.Sizes.{Spot, none, place, at, those, windowsOf}
 use Rattle.order.specs.Relations.{rel, alike}
 use Rattle.order.specs.Witnesses.{witnessI, witnessJ}
+use Rattle.order.specs.Agree.{agree}
 
 -- who falls, by whether the newer and the older stand. Both can't stand: a witness compares differently at its offset
 -- (the law `not-both`).
@@ -27,16 +27,15 @@ duel P T y a i j =
     (alike (rel (at T (y + i)) (at T (y + j))) (rel (at P i) (at P j)))
     (alike (rel (at T (y + i)) (at T (y + j))) (rel (at P (a + i)) (at P (a + j))))
 
--- no witness: they agree
+-- the duel by the witness of offset a; windows that do not agree have one
 unfoldable pub byWitness : List ℤ → List ℤ → ℕ → ℕ → Spot → Spot → Meeting
 byWitness P T y a none j = Agree
 byWitness P T y a (place i) none = Agree
 byWitness P T y a (place i) (place j) = duel P T y a i j
 
--- what becomes of the older window x and the newer y
+-- what becomes of the older window x and the newer y: they agree, or they duel
 unfoldable pub meets : List ℤ → List ℤ → ℕ → ℕ → Meeting
-meets P T x y =
-    cond (leb (length P) (y - x)) Agree (byWitness P T y (y - x) (witnessI P (y - x)) (witnessJ P (y - x)))
+meets P T x y = cond (agree P x y) Agree (byWitness P T y (y - x) (witnessI P (y - x)) (witnessJ P (y - x)))
 
 -- the kept windows, top first, and the duels fought so far
 pub record Stack : Type 0 where

@@ -10,5 +10,6 @@ pub mod Agree
 pub mod Duels
 pub mod Sweeping
 pub mod Written
+pub mod Demands
 pub mod Recordings
 pub mod Refusals

@@ -1,0 +1,89 @@
+-- Shows: the demands on every search, of the definitions: the list is exactly the windows isomorphic with the pattern, no such
+-- window is struck, any two survivors agree, D + S ≤ N, W ≤ 2(n + S).
+-- Assumes nothing.
+use Prim.Native.Nat.{ℕ, zero, suc, _-_, _<_}
+use mathlib.Core.Path.{_≡_, refl, sym, _∙_, ap, subst}
+use mathlib.Core.Logic.{_↔_, _⊎_, inl, inr, ⊎-elim}
+use mathlib.Core.List.{List, [], _∷_, _++_, List·Memᴰ, List·Memᴰ·head, List·Memᴰ·tail, List·Memᴰ·cases-cons, List·Memᴰ·not-nil}
+use mathlib.Core.Bool.{Bool, true, false, cond}
+use native.Mathlib.Omega.{arith}
+use lib.IntN.{ℤ}
+use lib.ListN.{length}
+use Rattle.order.specs.Sizes.{those, windowsOf, window}
+use Rattle.order.specs.Isomorphic.{Iso}
+use Rattle.order.specs.Duels.{entrants, survivors}
+use Rattle.order.specs.Sweeping.{positions}
+use Rattle.order.specs.Written.{countsOf, occurrences}
+use Rattle.order.specs.Demands.{Demands}
+use Rattle.order.proofs.Lists.{passing, passing-append, passing-one, those-suc, mem-those, those-mem, mem-passing, Ascending}
+use Rattle.order.proofs.Isomorphisms.{iso-computed, computed-iso}
+use Rattle.order.proofs.Meetings.{occurs, Agrees}
+use Rattle.order.proofs.Dueling.{Agreeing, survivors-agreeing, survivors-unstruck, duels-and-survivors}
+use Rattle.order.proofs.SweepLaws.{sweep-lists, sweep-cost}
+
+-- the windows that occur, among all windows
+passing-all : (p : ℕ → Bool) (n : ℕ) → passing p (those (λ x. true) n) ≡ those p n
+unfolding those passing
+passing-all p zero = refl
+passing-all p (suc n) = passing-append p (those (λ x. true) n) (n ∷ []) ∙ ap (λ l. l ++ passing p (n ∷ [])) (passing-all p n) ∙ ap (λ l. those p n ++ l) (passing-one p n)
+
+entrants-occur : (P T : List ℤ) → passing (occurs P T) (entrants P T) ≡ occurrences P T
+unfolding entrants occurrences
+entrants-occur P T = passing-all (occurs P T) (windowsOf (length P) (length T))
+
+-- the list is the list of those windows
+pub positions-are : (P T : List ℤ) → positions P T ≡ occurrences P T
+positions-are P T = sweep-lists P T ∙ survivors-unstruck P T ∙ entrants-occur P T
+
+-- which are the windows isomorphic with the pattern
+pub occurrence-is : (P T : List ℤ) (x : ℕ) → List·Memᴰ x (occurrences P T) ↔ (x < windowsOf (length P) (length T)) × Iso P (window T x (length P))
+unfolding occurrences
+occurrence-is P T x =
+    ((λ h. let b = mem-those (occurs P T) (windowsOf (length P) (length T)) h in (b .0, computed-iso P (window T x (length P)) (b .1))),
+    λ b. those-mem (occurs P T) (windowsOf (length P) (length T)) x (b .0) (iso-computed P (window T x (length P)) (b .1)))
+
+-- any two of a list that ascends and agrees
+any-two : (A : ℕ → ℕ → Type 0) (xs : List ℕ) → Agreeing A xs → (x y : ℕ) → List·Memᴰ x xs → List·Memᴰ y xs → x < y → A x y
+any-two A [] g x y h k l = absurd (List·Memᴰ·not-nil h)
+any-two A (z ∷ xs) g x y h k l = go (any-two A xs (g .1)) (List·Memᴰ·cases-cons h) (List·Memᴰ·cases-cons k)
+  where
+    go : ((x y : ℕ) → List·Memᴰ x xs → List·Memᴰ y xs → x < y → A x y) → (x ≡ z) ⊎ List·Memᴰ x xs → (y ≡ z) ⊎ List·Memᴰ y xs → A x y
+    go f (inl e) (inl d) = absurd (omega arith)
+    go f (inl e) (inr d) = subst (λ (v : ℕ). A v y) (sym e) (g .0 y d .1)
+    go f (inr e) (inl d) = let b : z < x = g .0 x e .0 in absurd (omega arith)
+    go f (inr e) (inr d) = f x y e d l
+
+pub survivors-agree : (P T : List ℤ) (x y : ℕ) → List·Memᴰ x (survivors P T) → List·Memᴰ y (survivors P T) → x < y → Agrees P x y
+survivors-agree P T = any-two (Agrees P) (survivors P T) (survivors-agreeing P T)
+
+-- the survivors ascend
+agreeing-ascend : (A : ℕ → ℕ → Type 0) (xs : List ℕ) → Agreeing A xs → Ascending xs
+agreeing-ascend A [] g = tt
+agreeing-ascend A (x ∷ xs) g = ((λ z h. g .0 z h .0), agreeing-ascend A xs (g .1))
+
+pub survivors-ascend : (P T : List ℤ) → Ascending (survivors P T)
+survivors-ascend P T = agreeing-ascend (Agrees P) (survivors P T) (survivors-agreeing P T)
+
+-- no window that occurs is struck
+pub unstruck : (P T : List ℤ) (x : ℕ) → x < windowsOf (length P) (length T) → Iso P (window T x (length P)) → List·Memᴰ x (survivors P T)
+unstruck P T x h e =
+    mem-passing (occurs P T) (survivors P T)
+    (subst (List·Memᴰ x) (sym (survivors-unstruck P T ∙ entrants-occur P T)) (occurrence-is P T x .1 (h, e)))
+
+pub demands-hold : (P T : List ℤ) → Demands P T (survivors P T) (positions P T) (countsOf P T)
+unfolding countsOf
+demands-hold P T =
+    record {
+      exact = positions-are P T;
+      each-listed = λ x. subst (λ (l : List ℕ). List·Memᴰ x l ↔ (x < windowsOf (length P) (length T)) × Iso P (window T x (length P))) (sym (positions-are P T)) (occurrence-is P T x);
+      unstruck = unstruck P T;
+      agreeing = λ x y h k l. inr (survivors-agree P T x y h k l);
+      duelling = duels-and-survivors P T;
+      sweeping = sweep-cost P T;
+      windows-are = refl;
+      duels-are = refl;
+      kept-are = refl;
+      kept-number = refl;
+      sweep-is = refl;
+      listed-number = refl
+    }
