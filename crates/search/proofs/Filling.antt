@@ -1,11 +1,11 @@
 -- Shows: a buffer that is written from entry 0 on, one entry a turn, holds what each entry was given and then its old content.
 -- Assumes nothing.
 use mathlib.Core.Path.{_≡_, refl, sym, _∙_, ap}
-use mathlib.Core.List.{List, _++_, append-assoc}
+use mathlib.Core.List.{List, [], _∷_, _++_, append-assoc}
 use Prim.Native.Nat.{ℕ, suc, _+_, _<_}
 use native.Mathlib.Numerals.{add-one}
-use lib.ListN.{length, getD, drop, set, length-set, List·getD-append}
-use lib.Seq.{drop-cons, set-at}
+use lib.ListN.{length, getD, drop, set, length-set, take-append-drop, List·getD-append}
+use lib.Seq.{take-suc, drop-cons, set-at, getD-set-same}
 use Rattle.order.specs.Sizes.{each}
 use Rattle.order.specs.Written.{over}
 use Rattle.order.proofs.Lists.{each-more, length-each, getD-each}
@@ -35,6 +35,15 @@ module _ {A : Type 0} (f : ℕ → A) where
       Filled f (n + 1) before (set out n v)
   filled-more {n} {v} {before} {out} w h e =
       record { long = length-set out n v ∙ w .long; holds = rw (w .holds, e) (next n before h) }
+
+  -- entry 0 is written, and what the buffer holds then is where the rest starts from
+  pub filled-first : {v : A} (before : List A) → v ≡ f 0 → 0 < length before → Filled f 1 (set before 0 v) (set before 0 v)
+  unfolding each
+  filled-first {v} before e h =
+      record { long = refl; holds = start (set before 0 v) (getD-set-same before 0 v v h ∙ e) (rw length-set h) }
+    where
+      start : (l : List A) → getD l 0 v ≡ f 0 → 0 < length l → l ≡ each f 1 ++ drop 1 l
+      start l g k = sym (take-append-drop 1 l) ∙ ap (λ h. h ++ drop 1 l) (take-suc l 0 v k ∙ ap (λ x. x ∷ []) g ∙ sym (each-more f 0))
 
   -- all of the n entries
   pub filled-all : {n : ℕ} {before out : List A} → Filled f n before out → out ≡ over (each f n) before

@@ -1,18 +1,20 @@
--- The laws that the functions' proofs cite.
+-- The laws that the functions' proofs cite, in the order of the argument.
 pub mod Verdicts
+pub mod VerdictRows
 pub mod Promised
 pub mod Entries
 pub mod NearestSoFar
 pub mod Filling
 pub mod Comparing
 pub mod TestByEntries
+pub mod Offsets
+pub mod OwnTables
+pub mod Stretches
+pub mod Turns
+pub mod ForeignEntries
 pub mod MeetingByTable
 pub mod StackLaws
 pub mod SweepSteps
-pub mod Offsets
-pub mod OwnTables
 pub mod FilledUp
-pub mod ForeignEntries
-pub mod VerdictRows
 pub mod WrittenOut
 pub mod SearchLaws

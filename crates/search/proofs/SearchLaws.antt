@@ -20,7 +20,7 @@ use Rattle.order.specs.Duels.{survivors}
 use Rattle.order.specs.Sweeping.{positions}
 use Rattle.order.specs.Written.{countsOf, over, filled}
 use Rattle.order.specs.Demands.{Demands}
-use Rattle.order.specs.Refusals.{Verdict, accepted, refused, refuse, roomVerdict, ownVerdict, foreignAt, patternVerdict, tablesVerdict, witnessesVerdict, searchVerdict}
+use Rattle.order.specs.Refusals.{Verdict, accepted, refused, refuse, roomVerdict, ownVerdict, foreignAt, patternVerdict, tablesVerdict, searchVerdict}
 use Rattle.order.proofs.Tests.{clash, or-neither-first, or-neither-second}
 use Rattle.order.proofs.Lists.{Finds, lowest-finds}
 use Rattle.order.proofs.Dueling.{duels-and-survivors}
@@ -32,23 +32,19 @@ use Rattle.search.specs.Answers.{checkedBy, verdictNumber, verdictPlace,
 use Rattle.search.specs.Asked.{OwnNeighbours}
 use Rattle.search.specs.Inside.{OwnWitnesses, Searchable, SearchedOf}
 use Rattle.search.specs.SearchPromise.{SearchPromise, searchedNumber, searchedPlace, searchedBy}
-use Rattle.search.proofs.Verdicts.{fine-accepted, refused-why, pattern-passed, tables-passed}
+use Rattle.search.proofs.Verdicts.{fine-accepted, refused-why, passed, pattern-passed, tables-passed}
 use Rattle.search.proofs.ForeignEntries.{passes-same}
 use Rattle.search.proofs.WrittenOut.{filled-over, positions-few}
 
 -- ---- what an accepted search has
 
-refuse-passed : (b : Bool) (r : Refusal) (next : Verdict) → refuse b r next ≡ accepted → (b ≡ false) × (next ≡ accepted)
-refuse-passed true r next e = absurd (let z : _≡_ {A = ℕ} 0 1 = cc in omega arith)
-refuse-passed false r next e = (refl, e)
-
 room-passed : (m n survivors positions : ℕ) (next : Verdict) → roomVerdict m n survivors positions next ≡ accepted
     → (n ≤ traceLimit) × (windowsOf m n ≤ survivors) × (windowsOf m n ≤ positions) × (next ≡ accepted)
 unfolding roomVerdict
 room-passed m n survivors positions next e =
-    let a = refuse-passed (ltb traceLimit n) _ _ e in
-    let b = refuse-passed (ltb survivors (windowsOf m n)) _ _ (a .1) in
-    let c = refuse-passed (ltb positions (windowsOf m n)) _ _ (b .1) in
+    let a = passed (ltb traceLimit n) _ _ e in
+    let b = passed (ltb survivors (windowsOf m n)) _ _ (a .1) in
+    let c = passed (ltb positions (windowsOf m n)) _ _ (b .1) in
     (ltb-false traceLimit n (a .0), ltb-false survivors (windowsOf m n) (b .0), ltb-false positions (windowsOf m n) (c .0), c .1)
 
 own-passed : (s : Spot) → ownVerdict s ≡ accepted → s ≡ none
@@ -58,8 +54,8 @@ own-passed (place k) e = absurd (let z : _≡_ {A = ℕ} 0 1 = cc in omega arith
 
 -- no entry is foreign: every table is the pattern's own
 module _ (P : List ℤ) (low high wi wj : List ℕ) (e : lowest (foreignAt P low high wi wj) (length P) ≡ none) where
-  passed : (k : ℕ) → k < length P → foreignAt P low high wi wj k ≡ false
-  passed = subst (Finds (foreignAt P low high wi wj) (length P)) e (lowest-finds (foreignAt P low high wi wj) (length P))
+  unforeign : (k : ℕ) → k < length P → foreignAt P low high wi wj k ≡ false
+  unforeign = subst (Finds (foreignAt P low high wi wj) (length P)) e (lowest-finds (foreignAt P low high wi wj) (length P))
 
   abbrev off-low : ℕ → Bool
   off-low k = not (eqb (getD low k 0) (entry (lowOf P k)))
@@ -75,11 +71,11 @@ module _ (P : List ℤ) (low high wi wj : List ℕ) (e : lowest (foreignAt P low
 
   low-own : (k : ℕ) → k < length P → getD low k 0 ≡ entry (lowOf P k)
   unfolding foreignAt
-  low-own k h = passes-same low (λ k. entry (lowOf P k)) k (or-neither-first (off-low k) (off-high k || (off-i k || off-j k)) (passed k h))
+  low-own k h = passes-same low (λ k. entry (lowOf P k)) k (or-neither-first (off-low k) (off-high k || (off-i k || off-j k)) (unforeign k h))
 
   rest : (k : ℕ) → k < length P → (off-high k || (off-i k || off-j k)) ≡ false
   unfolding foreignAt
-  rest k h = or-neither-second (off-low k) (off-high k || (off-i k || off-j k)) (passed k h)
+  rest k h = or-neither-second (off-low k) (off-high k || (off-i k || off-j k)) (unforeign k h)
 
   high-own : (k : ℕ) → k < length P → getD high k 0 ≡ entry (highOf P k)
   high-own k h = passes-same high (λ k. entry (highOf P k)) k (or-neither-first (off-high k) (off-i k || off-j k) (rest k h))
@@ -90,24 +86,16 @@ module _ (P : List ℤ) (low high wi wj : List ℕ) (e : lowest (foreignAt P low
   j-own : (k : ℕ) → k < length P → getD wj k 0 ≡ entry (witnessJ P k)
   j-own k h = passes-same wj (λ k. entry (witnessJ P k)) k (or-neither-second (off-i k) (off-j k) (or-neither-second (off-high k) (off-i k || off-j k) (rest k h)))
 
-tables-next : (m low high wi wj : ℕ) (next : Verdict) → tablesVerdict m low high wi wj next ≡ accepted → next ≡ accepted
-unfolding tablesVerdict witnessesVerdict
-tables-next m low high wi wj next e =
-    let a = refuse-passed (ltb low m) _ _ e in
-    let b = refuse-passed (ltb high m) _ _ (a .1) in
-    let c = refuse-passed (ltb wi m) _ _ (b .1) in
-    refuse-passed (ltb wj m) _ _ (c .1) .1
-
 pub search-ready : (P : List ℤ) (low high wi wj : List ℕ) (T : List ℤ) (s p : ℕ) → searchVerdict P low high wi wj T s p ≡ accepted → Searchable P low high wi wj T s p
 unfolding searchVerdict
 search-ready P low high wi wj T s p e =
     let a = pattern-passed (length P) _ e in
-    let b = tables-passed (length P) (length low) (length high) (length wi) (length wj) _ (a .1) in
-    let c = room-passed (length P) (length T) s p _ (tables-next (length P) (length low) (length high) (length wi) (length wj) _ (a .1)) in
+    let b = tables-passed (length P) (length low) (length high) (length wi) (length wj) _ (a .2) in
+    let c = room-passed (length P) (length T) s p _ (b .4) in
     let o = own-passed (lowest (foreignAt P low high wi wj) (length P)) (c .3) in
     record {
-      neighbours = record { limit = a .0; low-room = b .0; high-room = b .1; low-own = low-own P low high wi wj o; high-own = high-own P low high wi wj o };
-      witnesses = record { limit = a .0; i-long = b .2; j-long = b .3; i-own = i-own P low high wi wj o; j-own = j-own P low high wi wj o };
+      neighbours = record { limit = a .1; low-room = b .0; high-room = b .1; low-own = low-own P low high wi wj o; high-own = high-own P low high wi wj o };
+      witnesses = record { limit = a .1; i-long = b .2; j-long = b .3; i-own = i-own P low high wi wj o; j-own = j-own P low high wi wj o };
       trace = c .0;
       survivors-room = c .1;
       positions-room = c .2;

@@ -1,11 +1,11 @@
--- Shows: a row of conditions is the first part of the row, and then, where that part refuses nothing, the rest; what its
--- answer tells of the verdict; and what holds of the lengths where all conditions are passed.
+-- Shows: the verdict behind the answer of a row of conditions, and what holds of the lengths where all are passed.
 -- Assumes nothing.
 use mathlib.Core.Path.{_≡_, refl}
 use mathlib.Core.Bool.{Bool, true, false}
-use Prim.Native.Nat.{ℕ, _≤_}
+use Prim.Native.Nat.{ℕ, _≤_, _<_}
+use native.Mathlib.Nat.{pos-of-ne-zero}
 use lib.Dec.{ltb, eqb}
-use borrow.Author.Tests.{ltb-false}
+use borrow.Author.Tests.{eqb-false, ltb-false}
 use Rattle.order.specs.declared.refusal.Table.the-variants.{Low, High, WitnessI, WitnessJ}
 use Rattle.order.specs.declared.refusal.Refusal.{Refusal}
 use Rattle.order.specs.declared.refusal.Refusal.the-variants.{EmptyPattern, LongPattern, ShortTable}
@@ -14,29 +14,6 @@ use Rattle.order.specs.Refusals.{Verdict, accepted, refused, refuse, patternVer
 use Rattle.search.specs.declared.checks.Checked.the-variants.{Fine, Refused}
 use Rattle.search.specs.Answers.{checkedBy}
 use Rattle.search.specs.Asked.{Room}
-
--- what refuses with the rest left out refuses with it
-refuse-two : (a b : Bool) (r s why : Refusal) (next : Verdict) →
-    Refused why ≡ checkedBy (refuse a r (refuse b s accepted)) → Refused why ≡ checkedBy (refuse a r (refuse b s next))
-refuse-two true b r s why next e = e
-refuse-two false true r s why next e = e
-refuse-two false false r s why next e = cc
-
-pass-two : (a b : Bool) (r s : Refusal) (next : Verdict) →
-    Fine ≡ checkedBy (refuse a r (refuse b s accepted)) → checkedBy next ≡ checkedBy (refuse a r (refuse b s next))
-pass-two true b r s next e = cc
-pass-two false true r s next e = cc
-pass-two false false r s next e = refl
-
-pub pattern-refused : (m : ℕ) (why : Refusal) (next : Verdict) →
-    Refused why ≡ checkedBy (patternVerdict m accepted) → Refused why ≡ checkedBy (patternVerdict m next)
-unfolding patternVerdict
-pattern-refused m why next e = refuse-two (eqb m 0) (ltb 1024 m) _ _ why next e
-
-pub pattern-fine : (m : ℕ) (next : Verdict) →
-    Fine ≡ checkedBy (patternVerdict m accepted) → checkedBy next ≡ checkedBy (patternVerdict m next)
-unfolding patternVerdict
-pattern-fine m next e = pass-two (eqb m 0) (ltb 1024 m) _ _ next e
 
 -- the verdict behind an answer
 pub fine-accepted : (w : Verdict) → Fine ≡ checkedBy w → w ≡ accepted
@@ -48,16 +25,17 @@ refused-why accepted why e = cc
 refused-why (refused r) why e = cc
 
 -- a condition that is passed
-passed : (b : Bool) (r : Refusal) (next : Verdict) → refuse b r next ≡ accepted → (b ≡ false) × (next ≡ accepted)
+pub passed : (b : Bool) (r : Refusal) (next : Verdict) → refuse b r next ≡ accepted → (b ≡ false) × (next ≡ accepted)
 passed true r next e = (cc, cc)
 passed false r next e = (refl, e)
 
-pub pattern-passed : (m : ℕ) (next : Verdict) → patternVerdict m next ≡ accepted → (m ≤ patternLimit) × (next ≡ accepted)
+pub pattern-passed : (m : ℕ) (next : Verdict) → patternVerdict m next ≡ accepted → (0 < m) × (m ≤ patternLimit) × (next ≡ accepted)
 unfolding patternVerdict
 pattern-passed m next e =
     let a = passed (eqb m 0) EmptyPattern (refuse (ltb patternLimit m) (LongPattern m) next) e in
     let b = passed (ltb patternLimit m) (LongPattern m) next (a .1) in
-    (ltb-false patternLimit m (b .0), b .1)
+    let f : m ≡ 0 → ⊥ = eqb-false m 0 (a .0) in
+    (pos-of-ne-zero f, ltb-false patternLimit m (b .0), b .1)
 
 pub witnesses-passed : (m wi wj : ℕ) (next : Verdict) → witnessesVerdict m wi wj next ≡ accepted → (m ≤ wi) × (m ≤ wj) × (next ≡ accepted)
 unfolding witnessesVerdict
@@ -67,24 +45,24 @@ witnesses-passed m wi wj next e =
     (ltb-false wi m (a .0), ltb-false wj m (b .0), b .1)
 
 pub tables-passed : (m low high wi wj : ℕ) (next : Verdict) → tablesVerdict m low high wi wj next ≡ accepted →
-    (m ≤ low) × (m ≤ high) × (m ≤ wi) × (m ≤ wj)
+    (m ≤ low) × (m ≤ high) × (m ≤ wi) × (m ≤ wj) × (next ≡ accepted)
 unfolding tablesVerdict
 tables-passed m low high wi wj next e =
     let a = passed (ltb low m) (ShortTable Low) (refuse (ltb high m) (ShortTable High) (witnessesVerdict m wi wj next)) e in
     let b = passed (ltb high m) (ShortTable High) (witnessesVerdict m wi wj next) (a .1) in
     let c = witnesses-passed m wi wj next (b .1) in
-    (ltb-false low m (a .0), ltb-false high m (b .0), c .0, c .1)
+    (ltb-false low m (a .0), ltb-false high m (b .0), c .0, c .1, c .2)
 
 -- lengths that preparation accepts
 pub prepare-room : (m low high wi wj : ℕ) → prepareVerdict m low high wi wj ≡ accepted → Room m low high wi wj
 unfolding prepareVerdict
 prepare-room m low high wi wj e =
     let p = pattern-passed m (tablesVerdict m low high wi wj accepted) e in
-    let t = tables-passed m low high wi wj accepted (p .1) in
-    record { limit = p .0; low-room = t .0; high-room = t .1; witness-i-room = t .2; witness-j-room = t .3 }
+    let t = tables-passed m low high wi wj accepted (p .2) in
+    record { some = p .0; limit = p .1; low-room = t .0; high-room = t .1; witness-i-room = t .2; witness-j-room = t .3 }
 
 pub agree-room : (m wi wj : ℕ) → agreeVerdict m wi wj ≡ accepted → m ≤ wi
 unfolding agreeVerdict
 agree-room m wi wj e =
     let p = pattern-passed m (witnessesVerdict m wi wj accepted) e in
-    witnesses-passed m wi wj accepted (p .1) .0
+    witnesses-passed m wi wj accepted (p .2) .0

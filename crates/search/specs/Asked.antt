@@ -1,5 +1,5 @@
 -- What the functions inside this crate ask of their callers and tell them, part by part.
-use Prim.Native.Nat.{ℕ, _+_, _≤_, _<_}
+use Prim.Native.Nat.{ℕ, _+_, _-_, _≤_, _<_}
 use mathlib.Core.Path.{_≡_}
 use mathlib.Core.List.{List}
 use lib.IntN.{ℤ}
@@ -17,8 +17,9 @@ pub record Testable (P v : List ℤ) (start j low high : ℕ) : Type 0 where
   pub low-own : low ≡ entry (lowOf P j)
   pub high-own : high ≡ entry (highOf P j)
 
--- a pattern of m samples within the limit, and room for its tables
+-- a pattern of m samples, some and within the limit, and room for its tables
 pub record Room (m low high wi wj : ℕ) : Type 0 where
+  pub some : 0 < m
   pub limit : m ≤ patternLimit
   pub low-room : m ≤ low
   pub high-room : m ≤ high
@@ -49,3 +50,18 @@ pub record OwnWitness (P : List ℤ) (a i j : ℕ) : Type 0 where
 pub record KnownBelow (P : List ℤ) (a j : ℕ) : Type 0 where
   pub inside : a + j ≤ length P
   pub known : firstFail P (drop a P) j ≡ none
+
+-- the witness tables hold the pattern's own entries for the offsets below a
+pub record OwnBelow (P : List ℤ) (wi wj : List ℕ) (a : ℕ) : Type 0 where
+  pub inside : a < length P
+  pub witness-i-room : length P ≤ length wi
+  pub witness-j-room : length P ≤ length wj
+  pub witness-i-own : (k : ℕ) → k < a → getD wi k 0 ≡ entry (witnessI P k)
+  pub witness-j-own : (k : ℕ) → k < a → getD wj k 0 ≡ entry (witnessJ P k)
+
+-- the pattern's places from `start` up to `end` stand in the order of its first places, and start lies at a or before
+pub record Stretched (P : List ℤ) (a start end : ℕ) : Type 0 where
+  pub later : 0 < start
+  pub reached : start ≤ a
+  pub within : end ≤ length P
+  pub in-order : firstFail P (drop start P) (end - start) ≡ none

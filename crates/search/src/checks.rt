@@ -5,58 +5,13 @@ use order::PATTERN_LIMIT;
 use order::Refusal;
 use order::Table;
 ghost use mathlib.Core.Path.{_≡_};
-ghost use Rattle.order.specs.Refusals.{accepted, patternVerdict, witnessesVerdict, tablesVerdict, prepareVerdict, agreeVerdict};
+ghost use Rattle.order.specs.Refusals.{prepareVerdict, agreeVerdict};
 ghost use Rattle.search.specs.Answers.{checkedBy};
 
 // What a row of conditions comes to.
 pub(crate) enum Checked {
     Fine,
     Refused(Refusal),
-}
-
-// 1 and 2: the pattern's length.
-pub(crate) fn check_pattern(m: usize) -> Checked
-    ensures { λ r. ⌜ r ≡ checkedBy (patternVerdict m accepted) ⌝ }
-{
-    if m == 0 {
-        return Checked::Refused(Refusal::EmptyPattern);
-    }
-    if PATTERN_LIMIT < m {
-        return Checked::Refused(Refusal::LongPattern(m));
-    }
-    Checked::Fine
-}
-
-// 3, of the witness tables' lengths.
-pub(crate) fn check_witness_tables(m: usize, witness_i: usize, witness_j: usize) -> Checked
-    ensures { λ r. ⌜ r ≡ checkedBy (witnessesVerdict m «witness_i» «witness_j» accepted) ⌝ }
-{
-    if witness_i < m {
-        return Checked::Refused(Refusal::ShortTable(Table::WitnessI));
-    }
-    if witness_j < m {
-        return Checked::Refused(Refusal::ShortTable(Table::WitnessJ));
-    }
-    Checked::Fine
-}
-
-// 3, of all four tables' lengths.
-pub(crate) fn check_tables(
-    m: usize,
-    low: usize,
-    high: usize,
-    witness_i: usize,
-    witness_j: usize,
-) -> Checked
-    ensures { λ r. ⌜ r ≡ checkedBy (tablesVerdict m low high «witness_i» «witness_j» accepted) ⌝ }
-{
-    if low < m {
-        return Checked::Refused(Refusal::ShortTable(Table::Low));
-    }
-    if high < m {
-        return Checked::Refused(Refusal::ShortTable(Table::High));
-    }
-    check_witness_tables(m, witness_i, witness_j)
 }
 
 // Preparation: 1 to 3.
@@ -69,18 +24,42 @@ pub(crate) fn check_prepare(
 ) -> Checked
     ensures { λ r. ⌜ r ≡ checkedBy (prepareVerdict m low high «witness_i» «witness_j») ⌝ }
 {
-    match check_pattern(m) {
-        Checked::Refused(why) => Checked::Refused(why),
-        Checked::Fine => check_tables(m, low, high, witness_i, witness_j),
+    if m == 0 {
+        return Checked::Refused(Refusal::EmptyPattern);
     }
+    if PATTERN_LIMIT < m {
+        return Checked::Refused(Refusal::LongPattern(m));
+    }
+    if low < m {
+        return Checked::Refused(Refusal::ShortTable(Table::Low));
+    }
+    if high < m {
+        return Checked::Refused(Refusal::ShortTable(Table::High));
+    }
+    if witness_i < m {
+        return Checked::Refused(Refusal::ShortTable(Table::WitnessI));
+    }
+    if witness_j < m {
+        return Checked::Refused(Refusal::ShortTable(Table::WitnessJ));
+    }
+    Checked::Fine
 }
 
-// The call on two windows: 1 to 3.
+// The call on two windows: 1 to 3, of the witness tables alone.
 pub(crate) fn check_agree(m: usize, witness_i: usize, witness_j: usize) -> Checked
     ensures { λ r. ⌜ r ≡ checkedBy (agreeVerdict m «witness_i» «witness_j») ⌝ }
 {
-    match check_pattern(m) {
-        Checked::Refused(why) => Checked::Refused(why),
-        Checked::Fine => check_witness_tables(m, witness_i, witness_j),
+    if m == 0 {
+        return Checked::Refused(Refusal::EmptyPattern);
     }
+    if PATTERN_LIMIT < m {
+        return Checked::Refused(Refusal::LongPattern(m));
+    }
+    if witness_i < m {
+        return Checked::Refused(Refusal::ShortTable(Table::WitnessI));
+    }
+    if witness_j < m {
+        return Checked::Refused(Refusal::ShortTable(Table::WitnessJ));
+    }
+    Checked::Fine
 }

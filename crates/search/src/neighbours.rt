@@ -20,12 +20,6 @@ fn at_most(pattern: &[i32], i: usize, k: usize) -> bool
     pattern[i] <= pattern[k]
 }
 
-fn wide(x: u16) -> usize
-    ensures { λ r. ⌜ r ≡ x ⌝ }
-{
-    x as usize
-}
-
 // Place j's low neighbour among the places up to i, from the one among those before i.
 fn lower(pattern: &[i32], j: usize, i: usize, best: u16) -> u16
     requires { ⌜ (i < j) × (j < length (now pattern)) × (length (now pattern) ≤ patternLimit) × (best ≡ entry (nearest leZ (now pattern) j i)) ⌝ }
@@ -35,7 +29,7 @@ fn lower(pattern: &[i32], j: usize, i: usize, best: u16) -> u16
         if best == NONE {
             return i as u16;
         }
-        if at_most(pattern, wide(best), i) {
+        if at_most(pattern, best as usize, i) {
             return i as u16;
         }
         return best;
@@ -52,7 +46,7 @@ fn higher(pattern: &[i32], j: usize, i: usize, best: u16) -> u16
         if best == NONE {
             return i as u16;
         }
-        if at_most(pattern, i, wide(best)) {
+        if at_most(pattern, i, best as usize) {
             return i as u16;
         }
         return best;

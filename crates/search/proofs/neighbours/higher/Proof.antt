@@ -19,34 +19,31 @@ returns c =
     let s = c .before .before .before in
     took-first (turned upward) _ _ _ _ (omega arith) (sym (c .before .before .at-most .ensures) ∙ c .before .if1 .taken) (s .pre .3) (c .if2 .taken)
 
-wide-requires : tie.Need-wide-requires
-wide-requires c κs = search needs
-
 at-most-requires-2 : tie.Need-at-most-requires-2
 at-most-requires-2 c κs =
-    let s = c .before .before .before .before in
-    omega (arith, c .wide .ensures, best-below (turned upward) _ _ _ _ (s .pre .3) (c .before .if2 .left))
+    let s = c .before .before .before in
+    omega (arith, best-below (turned upward) _ _ _ _ (s .pre .3) (c .if2 .left))
 
 cast-result-2 : tie.Need-cast-result-2
 cast-result-2 c = search needs
 
 returns-2 : tie.Need-returns-2
 returns-2 c =
-    let s = c .before .before .before .before .before .before in
+    let a = c .before .before .before .before in
     took-nearer (turned upward) _ _ _ _
-    (sym (c .before .before .before .before .before .at-most .ensures) ∙ c .before .before .before .before .if1 .taken)
-    (s .pre .3)
-    (c .before .before .before .if2 .left)
-    (rw (c .before .before .wide .ensures) at (sym (c .before .at-most2 .ensures) ∙ c .if3 .taken))
+    (sym (a .at-most .ensures) ∙ c .before .before .before .if1 .taken)
+    (a .before .pre .3)
+    (c .before .before .if2 .left)
+    (sym (c .before .at-most2 .ensures) ∙ c .if3 .taken)
 
 returns-3 : tie.Need-returns-3
 returns-3 c =
-    let s = c .before .before .before .before .before .before in
+    let a = c .before .before .before .before in
     kept-nearer (turned upward) _ _ _ _
-    (sym (c .before .before .before .before .before .at-most .ensures) ∙ c .before .before .before .before .if1 .taken)
-    (s .pre .3)
-    (c .before .before .before .if2 .left)
-    (rw (c .before .before .wide .ensures) at (sym (c .before .at-most2 .ensures) ∙ c .if3 .left))
+    (sym (a .at-most .ensures) ∙ c .before .before .before .if1 .taken)
+    (a .before .pre .3)
+    (c .before .before .if2 .left)
+    (sym (c .before .at-most2 .ensures) ∙ c .if3 .left)
 
 returns-4 : tie.Need-returns-4
 returns-4 c =
@@ -60,7 +57,6 @@ higher-spec =
     at-most-requires
     cast-result
     returns
-    wide-requires
     at-most-requires-2
     cast-result-2
     returns-2

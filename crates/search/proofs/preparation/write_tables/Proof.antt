@@ -18,7 +18,7 @@ write-witnesses-requires c κs =
     let l = h .before .before .before .before in
     let s = l .before .before .before .before .before .before in (
       own-neighbours _ _ _ (s .pre .limit) (omega (arith, l .write-low .kept)) (omega (arith, h .write-high .kept)) (l .write-low .ensures) (h .write-high .ensures),
-      (s .pre .witness-i-room, s .pre .witness-j-room),
+      (s .pre .some, s .pre .witness-i-room, s .pre .witness-j-room),
     )
 
 same-length : tie.Need-same-length

@@ -1,44 +1,61 @@
--- `write_witnesses` meets its contract. The loop's invariant: the offsets passed are written in both tables, and the rest is
--- as it was. The measure is the offsets left.
+-- `write_witnesses` meets its contract. The loop's invariant: the offsets passed are written in both tables, the rest is as
+-- it was, and the stretch is known. The measure is the offsets left.
 -- Assumes nothing.
-use mathlib.Core.Path.{_≡_, refl}
-use Prim.Native.Nat.{_-_, _≤_}
-use native.Mathlib.Nat.{le-antisymm}
+use mathlib.Core.Path.{_≡_, refl, _∙_}
+use Prim.Native.Nat.{_-_}
 use native.Mathlib.Omega.{arith}
+use denote.Ref.{now}
+use lib.ListN.{length, length-set}
+use Rattle.search.proofs.Turns.{Turn, turn-first, turn-own, turn-next, turn-last}
 use borrow.Author.Needs.{needs}
-use lib.ListN.{length}
-use Rattle.order.specs.Sizes.{entry}
-use Rattle.order.specs.Witnesses.{witnessI, witnessJ, witnessITable, witnessJTable}
-use Rattle.search.proofs.Filling.{Filled, filled-none, filled-more, filled-all}
-use Rattle.search.proofs.Offsets.{known-none}
 use Rattle.search.proofs.witnesses.write_witnesses.Statement.{statement}
 use Rattle.search.proofs.witnesses.write_witnesses.Tie as tie
 
 abbrev Inv-loop : tie.InvT-loop
-Inv-loop pattern low high witness-i₀ witness-j₀ a₀ a-end witness-i witness-j a =
-    (a ≤ a-end) × (a-end ≡ length pattern) ×
-    Filled (λ k. entry (witnessI pattern k)) a witness-i₀ witness-i × Filled (λ k. entry (witnessJ pattern k)) a witness-j₀ witness-j
+Inv-loop pattern low high witness-i₀ witness-j₀ known₀ a₀ a-end witness-i witness-j known a =
+    (a-end ≡ length pattern) × Turn pattern witness-i₀ witness-j₀ witness-i witness-j (known .start) (known .end) a
 
 abbrev μ-loop : tie.MeasureT-loop
-μ-loop pattern low high witness-i₀ witness-j₀ a₀ a-end witness-i witness-j a = a-end - a
-
-loop-holds : tie.Need-loop-holds Inv-loop μ-loop
-loop-holds c = (omega arith, refl, filled-none _ _, filled-none _ _)
-
-witness-from-requires : tie.Need-witness-from-requires Inv-loop μ-loop
-witness-from-requires c κs = (c .before .before .before .before .before .before .pre .0, known-none _ _ (omega arith))
-
-mul-witness-i : tie.Need-mul-witness-i Inv-loop μ-loop
-mul-witness-i c = search needs
+μ-loop pattern low high witness-i₀ witness-j₀ known₀ a₀ a-end witness-i witness-j known a = a-end - a
 
 slice-write-witness-i : tie.Need-slice-write-witness-i Inv-loop μ-loop
 slice-write-witness-i c = search needs
 
+slice-write-witness-j : tie.Need-slice-write-witness-j Inv-loop μ-loop
+slice-write-witness-j c = search needs
+
+loop-holds : tie.Need-loop-holds Inv-loop μ-loop
+loop-holds c =
+    let b = c .before .before .before .before in
+    (refl, turn-first _ (now (b .args .witness-i)) (now (b .args .witness-j)) (b .pre .1 .0) (b .pre .1 .1) (b .pre .1 .2))
+
+witness-at-requires : tie.Need-witness-at-requires Inv-loop μ-loop
+witness-at-requires c κs =
+    let l = c .before .before in
+    let t = l .before .loop .inv .1 in
+    (l .before .before .before .before .before .before .pre .0, (turn-own t (l .loop-test .taken), t .stretch))
+
+mul-witness-i : tie.Need-mul-witness-i Inv-loop μ-loop
+mul-witness-i c = search needs
+
+slice-write-witness-i-2 : tie.Need-slice-write-witness-i-2 Inv-loop μ-loop
+slice-write-witness-i-2 c =
+    let l = c .before .before .before in
+    omega (arith, l .loop-test .taken, turn-own (l .before .loop .inv .1) (l .loop-test .taken) .witness-i-room)
+
 mul-witness-j : tie.Need-mul-witness-j Inv-loop μ-loop
 mul-witness-j c = search needs
 
-slice-write-witness-j : tie.Need-slice-write-witness-j Inv-loop μ-loop
-slice-write-witness-j c = search needs
+slice-write-witness-j-2 : tie.Need-slice-write-witness-j-2 Inv-loop μ-loop
+slice-write-witness-j-2 c =
+    let l = c .before .before .before in
+    omega (arith, l .loop-test .taken, turn-own (l .before .loop .inv .1) (l .loop-test .taken) .witness-j-room)
+
+further-requires : tie.Need-further-requires Inv-loop μ-loop
+further-requires c κs =
+    let l = c .before .before .before in
+    let s = l .before .before .before .before .before .before in
+    (l .before .loop .inv .1 .stretch, (l .loop-test .taken, s .pre .0 .limit, c .witness-at .ensures .failing))
 
 add-a : tie.Need-add-a Inv-loop μ-loop
 add-a c = search needs
@@ -48,23 +65,18 @@ loop-less c = search needs
 
 loop-again : tie.Need-loop-again Inv-loop μ-loop
 loop-again c =
-    let l = c .before .before .loop in
-    let w = c .witness-from .ensures in
-    let room = c .before .before .before .before .before .before .before .pre .1 in
-    (omega arith, refl, filled-more _ (l .inv .2) (omega arith) (w .neighbour), filled-more _ (l .inv .3) (omega arith) (w .failing))
+    let w = c .before in
+    let l = w .before .before .before in
+    (refl, turn-next (l .before .loop .inv .1) (l .loop-test .taken) (w .witness-at .ensures) (c .further .ensures))
 
 same-length : tie.Need-same-length Inv-loop μ-loop
-same-length c = search needs
+same-length c = c .before .loop .inv .1 .i-filled .long ∙ simp length-set
 
 same-length-2 : tie.Need-same-length-2 Inv-loop μ-loop
-same-length-2 c = search needs
+same-length-2 c = c .before .loop .inv .1 .j-filled .long ∙ simp length-set
 
 returns : tie.Need-returns Inv-loop μ-loop
-unfolding witnessITable witnessJTable
-returns c =
-    let l = c .before .loop in
-    let end = le-antisymm (l .inv .0) (c .loop-test .left) in
-    (rw (← end) (filled-all _ (l .inv .2)), rw (← end) (filled-all _ (l .inv .3)))
+returns c = turn-last _ _ _ _ _ _ _ _ _ _ (c .before .loop .inv .1) (c .before .before .before .before .before .before .pre .1 .0) (c .loop-test .left)
 
 pub write-witnesses-spec : {M : Type 1} → statement M
 write-witnesses-spec =
@@ -72,12 +84,15 @@ write-witnesses-spec =
     (tie.spec
     Inv-loop
     μ-loop
-    loop-holds
-    witness-from-requires
-    mul-witness-i
     slice-write-witness-i
-    mul-witness-j
     slice-write-witness-j
+    loop-holds
+    witness-at-requires
+    mul-witness-i
+    slice-write-witness-i-2
+    mul-witness-j
+    slice-write-witness-j-2
+    further-requires
     add-a
     loop-less
     loop-again
