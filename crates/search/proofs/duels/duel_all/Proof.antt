@@ -1,11 +1,12 @@
 -- `duel_all` meets its contract: the survivors buffer is the rules' stack, window by window and look by look.
 -- Assumes nothing.
-use Prim.Native.Nat.{_<_, _≤_, _-_}
-use mathlib.Core.Path.{sym, _∙_}
+use Prim.Native.Nat.{_<_, _≤_, _-_, _+_}
+use mathlib.Core.Path.{_≡_, refl, sym, _∙_, ap, subst}
 use mathlib.Core.Logic.{⊎-elim}
 use native.Mathlib.Omega.{arith}
 use denote.Ref.{now}
-use lib.ListN.{length}
+use lib.ListN.{length, getD, set}
+use borrow.Author.Tests.{eqb-false}
 use Rattle.search.proofs.StackLaws.{Looking, Settled, Standing, at-first, looking, kept-below, settle-empty, settle-agree, settle-newer, settle-both, look-again, dropped-next, pushed-next, all-arrived, settled-as, few, inside}
 use borrow.Author.Needs.{needs}
 use Rattle.search.proofs.duels.duel_all.Statement.{statement}

@@ -1,10 +1,12 @@
 -- `meet` meets its contract: the entries of the pattern's own witness tables tell whether the windows agree, and who duels.
 -- Assumes nothing.
-use Prim.Native.Nat.{_-_}
-use mathlib.Core.Path.{_≡_, sym, _∙_}
+use Prim.Native.Nat.{_<_, _-_, _+_}
+use mathlib.Core.Path.{_≡_, sym, _∙_, ap₂, subst, subst₂}
 use native.Mathlib.Omega.{arith}
 use denote.Ref.{now}
-use lib.ListN.{getD}
+use lib.ListN.{length, getD}
+use Rattle.order.specs.Duels.{meets, duel as duelOf}
+use Rattle.search.specs.Inside.{Duelable}
 use Rattle.search.proofs.MeetingByTable.{Entries, Facing, far-agree, by-offset, none-agrees, some-duels, duelable, meeting-told, apart}
 use borrow.Author.Needs.{needs}
 use Rattle.search.proofs.duels.meet.Statement.{statement}

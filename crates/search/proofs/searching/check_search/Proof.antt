@@ -1,6 +1,6 @@
 -- `check_search` meets its contract: its rows of conditions are tried one after the other.
 -- Assumes nothing.
-use mathlib.Core.Path.{sym, _∙_}
+use mathlib.Core.Path.{_≡_, sym, _∙_}
 use denote.Ref.{now}
 use lib.ListN.{length}
 use Rattle.search.proofs.Verdicts.{fine-accepted, prepare-room}

@@ -1,10 +1,10 @@
 -- `sweep_all` meets its contract: each turn sweeps one survivor as the rules do.
 -- Assumes nothing.
-use Prim.Native.Nat.{_≤_, _-_, _+_}
-use mathlib.Core.Path.{_≡_}
+use Prim.Native.Nat.{_<_, _≤_, _-_, _+_, _*_, max}
+use mathlib.Core.Path.{_≡_, refl, sym, _∙_, ap, subst}
 use native.Mathlib.Omega.{arith}
 use denote.Ref.{now}
-use lib.ListN.{length, getD}
+use lib.ListN.{length, getD, drop}
 use Rattle.order.specs.Duels.{survivors}
 use Rattle.order.proofs.Lists.{windowsOf-as}
 use Rattle.order.proofs.Dueling.{duels-and-survivors}
