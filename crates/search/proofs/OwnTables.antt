@@ -1,4 +1,4 @@
--- Shows: what the neighbours' functions write are the pattern's own neighbours.
+-- Shows: what is written as the neighbour tables are the pattern's own neighbours.
 -- Assumes nothing.
 use mathlib.Core.Path.{_≡_, _∙_, ap}
 use mathlib.Core.List.{List}

@@ -1,4 +1,5 @@
 // What each call answers. Follows docs/RULES.md, "Refusals": specs/Answers.antt gives each case its number and values.
+// These are types alone.
 
 use order::Counts;
 use order::Refusal;

@@ -78,22 +78,13 @@ fn high_entry(pattern: &[i32], j: usize) -> u16
     best
 }
 
-// Writes the low neighbours of all places.
-pub(crate) fn write_low(pattern: &[i32], low: &mut [u16])
-    requires { ⌜ (length (now pattern) ≤ length (now low)) × (length (now pattern) ≤ patternLimit) ⌝ }
-    ensures { λ r. ⌜ now (low .exit) ≡ over (lowTable (now (pattern .entry))) (now (low .entry)) ⌝ }
+// Writes the neighbours of all places.
+pub(crate) fn write_neighbours(pattern: &[i32], low: &mut [u16], high: &mut [u16])
+    requires { ⌜ (length (now pattern) ≤ length (now low)) × (length (now pattern) ≤ length (now high)) × (length (now pattern) ≤ patternLimit) ⌝ }
+    ensures { λ r. ⌜ (now (low .exit) ≡ over (lowTable (now (pattern .entry))) (now (low .entry))) × (now (high .exit) ≡ over (highTable (now (pattern .entry))) (now (high .entry))) ⌝ }
 {
     for j in 0..pattern.len() {
         low[j] = low_entry(pattern, j);
-    }
-}
-
-// Writes the high neighbours of all places.
-pub(crate) fn write_high(pattern: &[i32], high: &mut [u16])
-    requires { ⌜ (length (now pattern) ≤ length (now high)) × (length (now pattern) ≤ patternLimit) ⌝ }
-    ensures { λ r. ⌜ now (high .exit) ≡ over (highTable (now (pattern .entry))) (now (high .entry)) ⌝ }
-{
-    for j in 0..pattern.len() {
         high[j] = high_entry(pattern, j);
     }
 }

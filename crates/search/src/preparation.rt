@@ -7,8 +7,7 @@
 use crate::answers::Prepared;
 use crate::checks::Checked;
 use crate::checks::check_prepare;
-use crate::neighbours::write_high;
-use crate::neighbours::write_low;
+use crate::neighbours::write_neighbours;
 use crate::witnesses::write_witnesses;
 ghost use lib.ListN.{length};
 ghost use Rattle.search.specs.Asked.{Room, TablesWritten};
@@ -25,8 +24,7 @@ pub(crate) fn write_tables(
     requires { ⌜ Room (length (now pattern)) (length (now low)) (length (now high)) (length (now «witness_i»)) (length (now «witness_j»)) ⌝ }
     ensures { λ r. ⌜ TablesWritten (now (pattern .entry)) (now (low .entry)) (now (high .entry)) (now («witness_i» .entry)) (now («witness_j» .entry)) (now (low .exit)) (now (high .exit)) (now («witness_i» .exit)) (now («witness_j» .exit)) ⌝ }
 {
-    write_low(pattern, low);
-    write_high(pattern, high);
+    write_neighbours(pattern, low, high);
     write_witnesses(pattern, low, high, witness_i, witness_j);
 }
 

@@ -1,4 +1,4 @@
--- `write_tables` meets its contract: the neighbours that the first two calls write are those that the third asks for.
+-- `write_tables` meets its contract: the neighbours that the first call writes are those that the second asks for.
 -- Assumes nothing.
 use native.Mathlib.Omega.{arith}
 use Rattle.search.proofs.OwnTables.{own-neighbours}
@@ -6,19 +6,16 @@ use borrow.Author.Needs.{needs}
 use Rattle.search.proofs.preparation.write_tables.Statement.{statement}
 use Rattle.search.proofs.preparation.write_tables.Tie as tie
 
-write-low-requires : tie.Need-write-low-requires
-write-low-requires c κs = search needs
-
-write-high-requires : tie.Need-write-high-requires
-write-high-requires c κs = search needs
+write-neighbours-requires : tie.Need-write-neighbours-requires
+write-neighbours-requires c κs = search needs
 
 write-witnesses-requires : tie.Need-write-witnesses-requires
 write-witnesses-requires c κs =
-    let h = c .before .before .before .before .before .before in
-    let l = h .before .before .before .before in
-    let s = l .before .before .before .before .before .before in (
-      own-neighbours _ _ _ (s .pre .limit) (omega (arith, l .write-low .kept)) (omega (arith, h .write-high .kept)) (l .write-low .ensures) (h .write-high .ensures),
-      (s .pre .some, s .pre .witness-i-room, s .pre .witness-j-room),
+    let n = c .before .before .before .before .before .before .before .before in
+    let p = n .before .before .before .before .before .before .before .pre in
+    let w = n .write-neighbours in (
+      own-neighbours _ _ _ (p .limit) (omega (arith, w .kept)) (omega (arith, w .kept)) (w .ensures .0) (w .ensures .1),
+      (p .some, p .witness-i-room, p .witness-j-room),
     )
 
 same-length : tie.Need-same-length
@@ -40,8 +37,7 @@ pub write-tables-spec : {M : Type 1} → statement M
 write-tables-spec =
     tie.close
     (tie.spec
-    write-low-requires
-    write-high-requires
+    write-neighbours-requires
     write-witnesses-requires
     same-length
     same-length-2
