@@ -18,3 +18,4 @@ pub mod SweepSteps
 pub mod FilledUp
 pub mod WrittenOut
 pub mod SearchLaws
+pub mod LengthLaws

@@ -38,7 +38,7 @@ use Rattle.search.proofs.WrittenOut.{filled-over, positions-few}
 
 -- ---- what an accepted search has
 
-room-passed : (m n survivors positions : ℕ) (next : Verdict) → roomVerdict m n survivors positions next ≡ accepted
+pub room-passed : (m n survivors positions : ℕ) (next : Verdict) → roomVerdict m n survivors positions next ≡ accepted
     → (n ≤ traceLimit) × (windowsOf m n ≤ survivors) × (windowsOf m n ≤ positions) × (next ≡ accepted)
 unfolding roomVerdict
 room-passed m n survivors positions next e =

@@ -25,6 +25,7 @@ use Rattle.search.specs.declared.checks.Checked.the-variants.{Fine, Refu
 use Rattle.search.specs.Answers.{checkedBy}
 use Rattle.search.specs.Asked.{Room, OwnNeighbours}
 use Rattle.search.specs.Inside.{OwnWitnesses, Searchable, FirstForeign}
+use Rattle.search.proofs.Verdicts.{refused-why}
 use Rattle.search.proofs.ForeignEntries.{passes-same}
 
 -- ---- rows
@@ -91,6 +92,16 @@ room-row m n survivors positions =
     first-row (ltb traceLimit n) (LongTrace n) (λ v. refuse (ltb survivors (windowsOf m n)) (ShortSurvivors (windowsOf m n)) (refuse (ltb positions (windowsOf m n)) (ShortPositions (windowsOf m n)) v))
     (first-row (ltb survivors (windowsOf m n)) (ShortSurvivors (windowsOf m n)) (refuse (ltb positions (windowsOf m n)) (ShortPositions (windowsOf m n)))
     (refuse-row (ltb positions (windowsOf m n)) (ShortPositions (windowsOf m n))))
+
+-- what follows the sizes: nothing where they refuse, itself where they pass
+pub sizes-through : (m low high wi wj : ℕ) → Fine ≡ checkedBy (prepareVerdict m low high wi wj) → (next : Verdict) → patternVerdict m (tablesVerdict m low high wi wj next) ≡ next
+unfolding prepareVerdict
+sizes-through m low high wi wj e next = fine-passes (sizes m low high wi wj) (sizes-row m low high wi wj) e next
+
+pub sizes-stay : (m low high wi wj : ℕ) (why : Refusal) → Refused why ≡ checkedBy (prepareVerdict m low high wi wj) → (next : Verdict) → patternVerdict m (tablesVerdict m low high wi wj next) ≡ refused why
+unfolding prepareVerdict
+sizes-stay m low high wi wj why e next =
+    refused-why (sizes m low high wi wj next) why (refused-stays (sizes m low high wi wj) (sizes-row m low high wi wj) {c = Refused why} {why = why} e refl next)
 
 -- ---- the checks of a search, one after the other
 

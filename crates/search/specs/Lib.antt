@@ -7,3 +7,4 @@ pub mod Inside
 pub mod Stacks
 pub mod Sweeps
 pub mod SearchPromise
+pub mod Lengths

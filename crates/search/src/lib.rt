@@ -6,6 +6,7 @@
 mod answers;
 mod checks;
 mod duels;
+mod fitting_lengths;
 mod neighbours;
 mod own_tables;
 mod place_test;
@@ -19,6 +20,8 @@ mod witnesses;
 pub use answers::Agreement;
 pub use answers::Prepared;
 pub use answers::Searched;
+pub use fitting_lengths::Fitting;
+pub use fitting_lengths::lengths;
 pub use preparation::prepare;
 pub use searching::search;
 pub use windows::agree;

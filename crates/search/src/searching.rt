@@ -27,7 +27,7 @@ ghost use Rattle.search.specs.Inside.{Duels, SurvivorsOf, Listable, Posi
 ghost use Rattle.search.specs.SearchPromise.{SearchPromise};
 
 // N: how many windows of m samples a trace of n has.
-fn count_windows(m: usize, n: usize) -> usize
+pub(crate) fn count_windows(m: usize, n: usize) -> usize
     requires { ⌜ n ≤ traceLimit ⌝ }
     ensures { λ r. ⌜ r ≡ windowsOf m n ⌝ }
 {
@@ -38,7 +38,7 @@ fn count_windows(m: usize, n: usize) -> usize
 }
 
 // 4 to 6: the trace's length, and room in the two buffers.
-fn check_room(m: usize, n: usize, survivors: usize, positions: usize) -> Checked
+pub(crate) fn check_room(m: usize, n: usize, survivors: usize, positions: usize) -> Checked
     ensures { λ r. ⌜ r ≡ checkedBy (roomVerdict m n survivors positions accepted) ⌝ }
 {
     if TRACE_LIMIT < n {
