@@ -44,7 +44,7 @@ module _ (m low high wi wj n survivors positions : ℕ) where
       record {
         number = ap lengthsNumber e ∙ numbered (lengthsVerdict m low high wi wj n survivors positions) (windowsOf m n);
         place = ap lengthsPlace e ∙ placed (lengthsVerdict m low high wi wj n survivors positions) (windowsOf m n);
-        answer = e
+        answer = e;
       }
 
   pub lengths-refused : (why : Refusal) → Refused why ≡ checkedBy (prepareVerdict m low high wi wj) → LengthsPromise m low high wi wj n survivors positions (Unfit why)

@@ -6,7 +6,8 @@ use mathlib.Core.Bool.{cond}
 use lib.Dec.{ltb}
 use lib.IntN.{ℤ}
 use lib.ListN.{length, getD, take}
-use Rattle.order.specs.Sizes.{none, place, lowest, entry, patternLimit, traceLimit, windowsOf}
+use Rattle.order.specs.Relations.{rel}
+use Rattle.order.specs.Sizes.{none, place, at, lowest, entry, patternLimit, traceLimit, windowsOf}
 use Rattle.order.specs.Refusals.{foreignAt}
 use Rattle.order.specs.Witnesses.{witnessI, witnessJ}
 use Rattle.order.specs.Duels.{duels, survivors}
@@ -21,6 +22,7 @@ pub record Duelable (P T : List ℤ) (y a i j : ℕ) : Type 0 where
   pub j-inside : a + j < length P
   pub i-reach : y + i < length T
   pub j-reach : y + j < length T
+  pub differs : rel (at P i) (at P j) ≡ rel (at P (a + i)) (at P (a + j)) → ⊥
 
 -- the witness tables are the pattern's own below its length
 pub record OwnWitnesses (P : List ℤ) (wi wj : List ℕ) : Type 0 where

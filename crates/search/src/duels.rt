@@ -40,8 +40,9 @@ fn compare_at(v: &[i32], i: usize, j: usize) -> Relation
     order::compare(v[i], v[j])
 }
 
-// The duel of window y with the window a before it, by the witness (i, j). The one comparison of the trace is told against
-// the pattern's at the witness and at its offset.
+// The duel of window y with the window a before it, by the witness (i, j): one comparison of the trace. Where the older window
+// stands the newer can't, since a witness compares differently at its offset, so the pattern's start is looked at only where
+// the older has fallen.
 fn duel(pattern: &[i32], trace: &[i32], y: Window, a: Offset, i: Place, j: Place) -> Meeting
     requires { ⌜ Duelable (now pattern) (now trace) (y .0) (a .0) (i .0) (j .0) ⌝ }
     ensures { λ r. ⌜ r ≡ duelOf (now (pattern .entry)) (now (trace .entry)) (y .0) (a .0) (i .0) (j .0) ⌝ }
@@ -51,18 +52,13 @@ fn duel(pattern: &[i32], trace: &[i32], y: Window, a: Offset, i: Place, j: Place
     let i = i.0;
     let j = j.0;
     let seen = compare_at(trace, y + i, y + j);
-    let newer = order::same(seen, compare_at(pattern, i, j));
-    let older = order::same(seen, compare_at(pattern, a + i, a + j));
-    if newer {
-        if older {
-            return Meeting::Agree;
-        }
-        return Meeting::OlderFalls;
-    }
-    if older {
+    if order::same(seen, compare_at(pattern, a + i, a + j)) {
         return Meeting::NewerFalls;
     }
-    Meeting::BothFall
+    if order::same(seen, compare_at(pattern, i, j)) {
+        return Meeting::OlderFalls;
+    }
+    Meeting::BothFall // it suits neither
 }
 
 fn wide(x: u16) -> usize

@@ -8,7 +8,6 @@ use crate::checks::check_prepare;
 use crate::searching::check_room;
 use crate::searching::count_windows;
 use order::Refusal;
-
 ghost use mathlib.Core.Path.{_≡_};
 ghost use Rattle.order.specs.Refusals.{accepted, roomVerdict};
 ghost use Rattle.order.specs.Sizes.{windowsOf};

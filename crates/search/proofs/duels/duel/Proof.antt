@@ -1,10 +1,8 @@
--- `duel` meets its contract: the two tests tell who falls.
+-- `duel` meets its contract: where the older window stands the newer falls, and otherwise its own comparison tells.
 -- Assumes nothing.
-use mathlib.Core.Path.{_≡_}
-use mathlib.Core.Bool.{Bool, true, false}
-use denote.Ref.{now}
-use Rattle.order.specs.Duels.{fallen, duel as duelOf}
-use Rattle.search.proofs.MeetingByTable.{duel-told}
+use mathlib.Core.Bool.{true, false}
+use Rattle.order.specs.Duels.{fallen}
+use Rattle.search.proofs.MeetingByTable.{older-stands, older-falls}
 use borrow.Author.Needs.{needs}
 use Rattle.search.proofs.duels.duel.Statement.{statement}
 use Rattle.search.proofs.duels.duel.Tie as tie
@@ -25,60 +23,48 @@ add-compare-at-2 c = search needs
 compare-at-requires : tie.Need-compare-at-requires
 compare-at-requires c κs = search needs
 
--- src/duels.rt:55:35
-compare-at-requires-2 : tie.Need-compare-at-requires-2
-compare-at-requires-2 c κs = search needs
-
--- src/duels.rt:55:9
-same-requires : tie.Need-same-requires
-same-requires c κs = search needs
-
--- src/duels.rt:56:55
+-- src/duels.rt:55:46
 add-compare-at-3 : tie.Need-add-compare-at-3
 add-compare-at-3 c = search needs
 
--- src/duels.rt:56:62
+-- src/duels.rt:55:53
 add-compare-at-4 : tie.Need-add-compare-at-4
 add-compare-at-4 c = search needs
 
--- src/duels.rt:56:35
+-- src/duels.rt:55:26
+compare-at-requires-2 : tie.Need-compare-at-requires-2
+compare-at-requires-2 c κs = search needs
+
+-- src/duels.rt:55:8
+same-requires : tie.Need-same-requires
+same-requires c κs = search needs
+
+-- src/duels.rt:56:9
+returns : tie.Need-returns
+returns c =
+    older-stands (c .before .before .before .before .pre) (c .before .before .before .compare-at .ensures) (c .before .before .compare-at2 .ensures) (c .before .same .ensures) (c .if1 .taken)
+
+-- src/duels.rt:58:26
 compare-at-requires-3 : tie.Need-compare-at-requires-3
 compare-at-requires-3 c κs = search needs
 
--- src/duels.rt:56:9
+-- src/duels.rt:58:8
 same-requires-2 : tie.Need-same-requires-2
 same-requires-2 c κs = search needs
 
--- who falls, by what the two tests came to
-told : (c : tie.After-same2) (t u : Bool) → c .before .before .same .result ≡ t → c .same2 .result ≡ u →
-    fallen t u ≡ duelOf (now (c .before .before .before .before .before .args .pattern)) (now (c .before .before .before .before .before .args .trace))
-    (c .before .before .before .before .before .args .y .0) (c .before .before .before .before .before .args .a .0) (c .before .before .before .before .before .args .i .0) (c .before .before .before .before .before .args .j .0)
-told c t u p q =
-    duel-told _ _ _ _ _ _ t u
-    (c .before .before .before .before .compare-at .ensures)
-    (c .before .before .before .compare-at2 .ensures)
-    (c .before .compare-at3 .ensures)
-    (c .before .before .same .ensures) (c .same2 .ensures) p q
-
--- src/duels.rt:59:13
-returns : tie.Need-returns
-unfolding fallen
-returns c = told (c .before .before) true true (c .before .if1 .taken) (c .if2 .taken)
-
--- src/duels.rt:61:9
+-- src/duels.rt:59:9
 returns-2 : tie.Need-returns-2
 unfolding fallen
-returns-2 c = told (c .before .before) true false (c .before .if1 .taken) (c .if2 .left)
-
--- src/duels.rt:64:9
-returns-3 : tie.Need-returns-3
-unfolding fallen
-returns-3 c = told (c .before .before) false true (c .before .if1 .left) (c .if3 .taken)
+returns-2 c =
+    older-falls (c .before .before .before .before .before .before .before .pre) (c .before .before .before .before .before .before .compare-at .ensures) (c .before .before .before .before .before .compare-at2 .ensures) (c .before .before .before .before .same .ensures) true
+    (c .before .before .compare-at3 .ensures) (c .before .before .before .if1 .left) (c .before .same2 .ensures) (c .if2 .taken)
 
 -- src/duels.rt:46:1
-returns-4 : tie.Need-returns-4
+returns-3 : tie.Need-returns-3
 unfolding fallen
-returns-4 c = told (c .before .before) false false (c .before .if1 .left) (c .if3 .left)
+returns-3 c =
+    older-falls (c .before .before .before .before .before .before .before .pre) (c .before .before .before .before .before .before .compare-at .ensures) (c .before .before .before .before .before .compare-at2 .ensures) (c .before .before .before .before .same .ensures) false
+    (c .before .before .compare-at3 .ensures) (c .before .before .before .if1 .left) (c .before .same2 .ensures) (c .if2 .left)
 
 pub duel-spec : {M : Type 1} → statement M
 duel-spec =
@@ -87,13 +73,12 @@ duel-spec =
     add-compare-at
     add-compare-at-2
     compare-at-requires
-    compare-at-requires-2
-    same-requires
     add-compare-at-3
     add-compare-at-4
+    compare-at-requires-2
+    same-requires
+    returns
     compare-at-requires-3
     same-requires-2
-    returns
     returns-2
-    returns-3
-    returns-4)
+    returns-3)
