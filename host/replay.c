@@ -1,0 +1,248 @@
+/*
+ * replay.c - the host's tests: reads a stream of cases from standard input (reference/README.md has the format), makes each call
+ * of the C entry points, and writes the answers and buffers to standard output in the reference's words, to be compared.
+ *
+ * Beside that it looks at every byte itself: guards stand around each buffer, each buffer has some bytes left over at its end,
+ * what is only read must stay, and the counts buffer is tried at every length. A fault ends the run with status 1.
+ */
+#include <stdio.h>
+#include <stdlib.h>
+#include <string.h>
+
+#include "tension.h"
+
+enum { TABLE = 1100, TRACE = 65600, GUARD = 16, FILL = 0xAA };
+
+static unsigned long cases;
+
+static void fail(const char *what)
+{
+    fprintf(stderr, "case %lu: %s\n", cases, what);
+    exit(1);
+}
+
+/* A buffer with guards around it, a copy of what it held, and a number of bytes left over at its end. */
+struct buffer {
+    uint8_t *whole, *bytes, *before;
+    size_t length, entries, width;
+};
+
+static void make(struct buffer *b, size_t entries, size_t width, size_t over)
+{
+    b->entries = entries;
+    b->width = width;
+    b->length = entries * width + over % width;
+    b->whole = malloc(b->length + 2 * GUARD);
+    b->before = malloc(b->length + 1);
+    if (!b->whole || !b->before)
+        fail("no memory");
+    memset(b->whole, FILL, b->length + 2 * GUARD);
+    b->bytes = b->whole + GUARD;
+}
+
+static void remember(struct buffer *b)
+{
+    memcpy(b->before, b->bytes, b->length);
+}
+
+/* Nothing outside the first `written` entries has changed. */
+static void look(const struct buffer *b, size_t written)
+{
+    size_t k, from = written * b->width;
+    for (k = 0; k < GUARD; k++)
+        if (b->whole[k] != FILL || b->bytes[b->length + k] != FILL)
+            fail("a byte outside a buffer was written");
+    if (from > b->length)
+        from = b->length;
+    if (memcmp(b->bytes + from, b->before + from, b->length - from) != 0)
+        fail("a byte that should have stayed was written");
+}
+
+static void drop(struct buffer *b)
+{
+    free(b->whole);
+    free(b->before);
+}
+
+static uint32_t get(const struct buffer *b, size_t entry)
+{
+    const uint8_t *p = b->bytes + entry * b->width;
+    uint32_t v = (uint32_t)p[0] | (uint32_t)p[1] << 8;
+    return b->width == 2 ? v : v | (uint32_t)p[2] << 16 | (uint32_t)p[3] << 24;
+}
+
+static void put(struct buffer *b, size_t entry, uint32_t v)
+{
+    size_t k;
+    for (k = 0; k < b->width; k++)
+        b->bytes[entry * b->width + k] = (uint8_t)(v >> (8 * k));
+}
+
+static uint32_t number(int width)
+{
+    uint32_t v = 0;
+    int k, c;
+    for (k = 0; k < width; k++) {
+        if ((c = getchar()) == EOF)
+            fail("the stream ends early");
+        v |= (uint32_t)c << (8 * k);
+    }
+    return v;
+}
+
+static void samples(struct buffer *b, size_t over)
+{
+    uint32_t count = number(4), width = number(1), k, v = 0;
+    if (width == 0)
+        v = number(4);
+    make(b, count, 4, over);
+    for (k = 0; k < count; k++) {
+        if (width == 1)
+            v = (uint32_t)(int32_t)(int8_t)number(1);
+        else if (width == 4)
+            v = number(4);
+        put(b, k, v);
+    }
+    remember(b);
+}
+
+static void show(const char *name, const struct buffer *b)
+{
+    size_t k = 0, run;
+    uint32_t guard = b->width == 2 ? 0xAAAAu : 0xAAAAAAAAu;
+    printf("%s", name);
+    while (k < b->entries) {
+        uint32_t v = get(b, k);
+        int mark = v == guard ? 'g' : b->width == 4 && v == TENSION_UNUSED ? 'u' : 0;
+        if (!mark) {
+            printf(" %lu", (unsigned long)v);
+            k++;
+            continue;
+        }
+        for (run = 0; k < b->entries && get(b, k) == v; run++)
+            k++;
+        printf(" %c%lu", mark, (unsigned long)run);
+    }
+    printf("\n");
+}
+
+static void prepare_case(void)
+{
+    static const char *names[4] = {"low", "high", "wi", "wj"};
+    struct buffer pattern, t[4];
+    uint64_t answer;
+    int k;
+
+    samples(&pattern, cases);
+    for (k = 0; k < 4; k++) {
+        make(&t[k], number(2), 2, cases / 2 + (unsigned)k);
+        remember(&t[k]);
+    }
+    answer = tension_prepare(pattern.bytes, pattern.length, t[0].bytes, t[0].length, t[1].bytes, t[1].length,
+                             t[2].bytes, t[2].length, t[3].bytes, t[3].length);
+    printf("prepare %lu %lu\n", (unsigned long)TENSION_NUMBER(answer), (unsigned long)TENSION_PLACE(answer));
+    look(&pattern, 0);
+    for (k = 0; k < 4; k++) {
+        look(&t[k], answer ? 0 : pattern.entries);
+        show(names[k], &t[k]);
+        drop(&t[k]);
+    }
+    drop(&pattern);
+}
+
+/* One call of the search, with a counts buffer of some length. */
+static uint64_t call(struct buffer *pattern, struct buffer *t, struct buffer *trace, struct buffer *survivors,
+                     struct buffer *positions, struct buffer *counts)
+{
+    return tension_search(pattern->bytes, pattern->length, t[0].bytes, t[0].length, t[1].bytes, t[1].length, t[2].bytes,
+                          t[2].length, t[3].bytes, t[3].length, trace->bytes, trace->length, survivors->bytes,
+                          survivors->length, positions->bytes, positions->length, counts->bytes, counts->length);
+}
+
+static void search_case(void)
+{
+    struct buffer pattern, full[4], t[4], trace, survivors, positions, counts, few;
+    uint64_t answer;
+    uint32_t damages, windows, k;
+    int n;
+
+    samples(&pattern, cases / 3);
+    number(1);
+    for (n = 0; n < 4; n++) {
+        make(&full[n], TABLE, 2, 0);
+        memset(full[n].bytes, 0, full[n].length);
+    }
+    tension_prepare(pattern.bytes, pattern.length, full[0].bytes, full[0].length, full[1].bytes, full[1].length,
+                    full[2].bytes, full[2].length, full[3].bytes, full[3].length);
+    for (n = 0; n < 4; n++)
+        make(&t[n], number(2), 2, cases + (unsigned)n);
+    for (damages = number(1); damages > 0; damages--) {
+        uint32_t table = number(1), entry = number(2), value = number(2);
+        put(&full[table - 1], entry, value);
+    }
+    for (n = 0; n < 4; n++) {
+        memcpy(t[n].bytes, full[n].bytes, 2 * t[n].entries);
+        remember(&t[n]);
+        drop(&full[n]);
+    }
+    samples(&trace, cases / 5);
+    make(&survivors, number(4), 4, cases / 2);
+    make(&positions, number(4), 4, cases / 7);
+    make(&counts, TENSION_COUNTS, 4, cases);
+    make(&few, cases % (TENSION_COUNTS + 3), 4, cases / 11);
+    remember(&survivors);
+    remember(&positions);
+    remember(&counts);
+    remember(&few);
+
+    answer = call(&pattern, t, &trace, &survivors, &positions, &counts);
+    windows = trace.entries < pattern.entries ? 0 : (uint32_t)(trace.entries - pattern.entries + 1);
+    printf("search %lu %lu", (unsigned long)TENSION_NUMBER(answer), (unsigned long)TENSION_PLACE(answer));
+    for (k = 0; !answer && k < TENSION_COUNTS; k++)
+        printf(" %lu", (unsigned long)get(&counts, k));
+    printf("\n");
+    look(&pattern, 0);
+    look(&trace, 0);
+    for (n = 0; n < 4; n++)
+        look(&t[n], 0);
+    look(&survivors, answer ? 0 : windows);
+    look(&positions, answer ? 0 : windows);
+    look(&counts, answer ? 0 : TENSION_COUNTS);
+    show("survivors", &survivors);
+    show("positions", &positions);
+
+    /* Again, with room for fewer counts, or for more. */
+    if (call(&pattern, t, &trace, &survivors, &positions, &few) != answer)
+        fail("the same call answers otherwise");
+    look(&few, answer ? 0 : TENSION_COUNTS);
+    for (k = 0; !answer && k < few.entries && k < TENSION_COUNTS; k++)
+        if (get(&few, k) != get(&counts, k))
+            fail("a count depends on the buffer's length");
+
+    for (n = 0; n < 4; n++)
+        drop(&t[n]);
+    drop(&pattern);
+    drop(&trace);
+    drop(&survivors);
+    drop(&positions);
+    drop(&counts);
+    drop(&few);
+}
+
+int main(void)
+{
+    uint32_t kind;
+    while ((kind = number(1)) != 0) {
+        cases++;
+        if (kind == 1)
+            prepare_case();
+        else if (kind == 2)
+            search_case();
+        else
+            fail("a kind of case that a host does not have");
+    }
+    if (cases == 0)
+        fail("no case");
+    fprintf(stderr, "%lu calls replayed\n", cases);
+    return 0;
+}
