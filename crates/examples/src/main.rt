@@ -3,6 +3,7 @@
 
 use order::Counts;
 use order::Refusal;
+use recording::Reading;
 use search::Searched;
 
 // A space and a number.
@@ -187,6 +188,22 @@ fn altered() {
     searched(b"m", answer);
 }
 
+// Example l: a recording's bytes.
+fn recording_example(bytes: &[u8]) {
+    let mut samples = [0i32; 4];
+    word(b"l");
+    match recording::read(bytes, &mut samples) {
+        Reading::Done { count, first } => {
+            word(b" count");
+            number(count as u64);
+            word(b" place");
+            number(first as u64);
+            end_line();
+        }
+        Reading::Refused(why) => refusal(why),
+    }
+}
+
 fn main() {
     tables();
     example(b"c", &[4i32, 9, 6, 6], &[5i32, 8, 6, 6, 9, 7, 7, 2, 4, 3, 3]);
@@ -202,5 +219,8 @@ fn main() {
     sizes(1024, 65536);
     sizes(1025, 65536);
     sizes(1024, 65537);
+    recording_example(&[0u8, 0, 0, 0, 0, 0, 0, 0, 75, 82, 69, 67]);
+    recording_example(&[0u8, 0, 0, 0, 0, 0, 0, 75, 82, 69, 67]);
+    recording_example(&[0u8, 0, 0, 0, 0, 0, 0, 64, 75, 82, 69, 67]);
     altered();
 }

@@ -49,7 +49,7 @@ fn signed8(v: u8) -> i32 {
     !((255 - v) as i32)
 }
 
-fn fill_samples(samples: &mut [i32], count: usize, value: i32) {
+pub(crate) fn fill_samples(samples: &mut [i32], count: usize, value: i32) {
     let mut k: usize = 0;
     while k < samples.len() {
         if count <= k {

@@ -7,6 +7,7 @@
 mod input;
 mod output;
 
+use input::fill_samples;
 use input::read_entries;
 use input::read_number;
 use input::read_samples;
@@ -15,21 +16,28 @@ use order::Counts;
 use order::Refusal;
 use order::Window;
 use output::put_byte;
+use output::put_integers;
 use output::put_number;
 use output::put_table;
 use output::put_text;
 use output::put_windows;
+use recording::Reading;
+use report::Reported;
 use search::Agreement;
 use search::Prepared;
 use search::Searched;
 
 const TABLE: usize = 1100;
+const SAMPLES: usize = 2100;
 
 const TRACE: usize = 65600;
 
 const GUARD16: u16 = 43690;
 
 const GUARD32: u32 = 2863311530;
+const GUARD8: u8 = 170;
+const GUARD_SAMPLE: i32 = -1431655766;
+const TEXT: usize = 40000;
 
 fn fill16(table: &mut [u16], value: u16) {
     let mut k: usize = 0;
@@ -298,6 +306,96 @@ fn replay_agree(out: &mut [u8]) -> usize {
     put_agreement(out, answer)
 }
 
+fn put_reading(out: &mut [u8], answer: Reading) -> usize {
+    let at = put_text(out, 0, b"read");
+    match answer {
+        Reading::Done { count, first } => {
+            let mut next = put_text(out, at, b" 0 0");
+            next = put_number(out, next, count);
+            next = put_number(out, next, first);
+            end_line(out, next)
+        }
+        Reading::Refused(why) => put_refusal_line(out, at, why),
+    }
+}
+
+// Reads a recording into the samples lent, and shows the answer and the samples.
+fn read_and_show(bytes: &[u8], samples: &mut [i32], out: &mut [u8]) -> usize {
+    fill_samples(samples, samples.len(), GUARD_SAMPLE);
+    let answer = recording::read(bytes, samples);
+    let at = put_reading(out, answer);
+    put_integers(out, at, b"samples", samples)
+}
+
+fn replay_read(samples: &mut [i32], bytes: &mut [u8], out: &mut [u8]) -> usize {
+    let n = smaller(read_number(4), bytes.len());
+    io::read_full(0, &mut bytes[0..n]);
+    let r = smaller(read_number(4), samples.len());
+    read_and_show(&bytes[0..n], &mut samples[0..r], out)
+}
+
+fn fill8(list: &mut [u8], value: u8) {
+    let mut k: usize = 0;
+    while k < list.len() {
+        list[k] = value;
+        k += 1;
+    }
+}
+
+// Whether every byte from an index on is the guard.
+fn guarded(list: &[u8], from: usize) -> bool {
+    let mut k: usize = from;
+    while k < list.len() {
+        if list[k] != GUARD8 {
+            return false;
+        }
+        k += 1;
+    }
+    true
+}
+
+// A report's length, and then the text, or that the buffer was kept. A byte that should have stayed and did not shows as a word
+// that the reference never writes.
+fn put_reported(out: &mut [u8], answer: Reported, text: &[u8]) -> usize {
+    let at = put_text(out, 0, b"report");
+    match answer {
+        Reported::Written(length) => {
+            let mut next = put_number(out, at, length);
+            next = end_line(out, next);
+            if !guarded(text, length) {
+                return put_text(out, next, b"overwritten\n");
+            }
+            if text.len() < length {
+                return put_text(out, next, b"too long\n");
+            }
+            put_text(out, next, &text[0..length])
+        }
+        Reported::Short(length) => {
+            let mut next = put_number(out, at, length);
+            next = end_line(out, next);
+            if !guarded(text, 0) {
+                return put_text(out, next, b"overwritten\n");
+            }
+            put_text(out, next, b"kept\n")
+        }
+    }
+}
+
+// Reports on an input into the buffer lent, and shows the answer and the buffer.
+fn report_and_show(bytes: &[u8], text: &mut [u8], out: &mut [u8]) -> usize {
+    fill8(text, GUARD8);
+    let answer = report::report(bytes, text);
+    put_reported(out, answer, text)
+}
+
+fn replay_report(bytes: &mut [u8], out: &mut [u8]) -> usize {
+    let mut text = [0u8; TEXT];
+    let n = smaller(read_number(4), bytes.len());
+    io::read_full(0, &mut bytes[0..n]);
+    let r = smaller(read_number(4), TEXT);
+    report_and_show(&bytes[0..n], &mut text[0..r], out)
+}
+
 // Reads and replays one case. Answers the length of what it shows, and 0 at the stream's end.
 fn replay_one(
     pattern: &mut [i32],
@@ -316,6 +414,12 @@ fn replay_one(
     }
     if kind == 3 {
         return replay_agree(out);
+    }
+    if kind == 4 {
+        return replay_read(pattern, bytes, out);
+    }
+    if kind == 5 {
+        return replay_report(bytes, out);
     }
     0
 }
@@ -342,7 +446,7 @@ fn replay_all(
 }
 
 fn main() {
-    let mut pattern = [0i32; TABLE];
+    let mut pattern = [0i32; SAMPLES];
     let mut trace = [0i32; TRACE];
     let mut survivors = [0u32; TRACE];
     let mut positions = [0u32; TRACE];

@@ -96,6 +96,56 @@ pub(crate) fn put_table(out: &mut [u8], at: usize, name: &[u8], table: &[u16]) -
     put_byte(out, next, b'\n')
 }
 
+const GUARD_SAMPLE: i32 = -1431655766;
+
+// A space and a sample, with its sign.
+fn put_integer(out: &mut [u8], at: usize, x: i32) -> usize {
+    if x < 0 {
+        let next = put_text(out, at, b" -");
+        return put_digits(out, next, lift(!x) + 1);
+    }
+    put_number(out, at, lift(x))
+}
+
+fn lift(x: i32) -> usize
+    ensures { λ r. ⌜ r < 2147483648 ⌝ }
+{
+    if x < 0 {
+        return 0;
+    }
+    x as usize
+}
+
+fn put_digits(out: &mut [u8], at: usize, n: usize) -> usize {
+    let mut digits = [0u8; 20];
+    let k = io::decimal(n as u64, &mut digits);
+    put_text(out, at, &digits[..k])
+}
+
+// A sample that ends a run of the guard: the run, and then the sample.
+fn put_sample(out: &mut [u8], at: usize, run: usize, goes_on: bool, x: i32) -> usize {
+    if goes_on {
+        return at;
+    }
+    let next = put_run(out, at, b'g', run);
+    put_integer(out, next, x)
+}
+
+// A list of samples on a line of its own: its name, its entries, and runs of the guard.
+pub(crate) fn put_integers(out: &mut [u8], at: usize, name: &[u8], list: &[i32]) -> usize {
+    let mut next = put_text(out, at, name);
+    let mut run: usize = 0;
+    let mut k: usize = 0;
+    while k < list.len() {
+        let guard = list[k] == GUARD_SAMPLE;
+        next = put_sample(out, next, run, guard, list[k]);
+        run = longer(run, guard);
+        k += 1;
+    }
+    next = put_run(out, next, b'g', run);
+    put_byte(out, next, b'\n')
+}
+
 // What a window's entry is: the guard, "unused" or a window.
 fn mark_of(x: u32) -> u8 {
     if x == GUARD32 {
