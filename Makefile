@@ -4,9 +4,13 @@ DESTDIR ?=
 
 .PHONY: run test cases host install
 
+# proves and builds the program, and searches the recording in examples/
 run:
-	@echo "Here so far: the proved library (crates/order, crates/search) and a reference program (reference/)."
-	@echo "To search a recording with the reference: reference/search < FILE"
+	@echo "Proving and building bench (the first time takes some minutes) .."
+	@mkdir -p target
+	@rt check bench > target/run.log 2>&1 || { tail -n 20 target/run.log; exit 1; }
+	@echo "target/bin/bench < examples/ribbing.krec"
+	@target/bin/bench < examples/ribbing.krec
 
 test:
 	@bash .ci/run
