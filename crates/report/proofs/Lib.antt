@@ -4,3 +4,4 @@ pub mod Putting
 pub mod Printing
 pub mod Steps
 pub mod Reports
+pub mod Printed
