@@ -128,7 +128,13 @@ fn tables() {
     let mut high = [0u16; 4];
     let mut witness_i = [0u16; 4];
     let mut witness_j = [0u16; 4];
-    search::prepare(&pattern, &mut low, &mut high, &mut witness_i, &mut witness_j);
+    search::prepare(
+        &pattern,
+        &mut low,
+        &mut high,
+        &mut witness_i,
+        &mut witness_j,
+    );
     table(b"a low", &low);
     table(b"a high", &high);
     table(b"b witness i", &witness_i);
@@ -147,7 +153,13 @@ fn sizes(m: usize, n: usize) {
     let mut positions = [0u32; 65536];
     if m <= 1025 {
         if n <= 65537 {
-            search::prepare(&pattern[0..m], &mut low, &mut high, &mut witness_i, &mut witness_j);
+            search::prepare(
+                &pattern[0..m],
+                &mut low,
+                &mut high,
+                &mut witness_i,
+                &mut witness_j,
+            );
             let answer = search::search(
                 &pattern[0..m],
                 &low,
@@ -171,7 +183,13 @@ fn altered() {
     let mut high = [0u16; 4];
     let mut witness_i = [0u16; 4];
     let mut witness_j = [0u16; 4];
-    search::prepare(&pattern, &mut low, &mut high, &mut witness_i, &mut witness_j);
+    search::prepare(
+        &pattern,
+        &mut low,
+        &mut high,
+        &mut witness_i,
+        &mut witness_j,
+    );
     witness_j[3] = 1;
     let mut survivors = [0u32; 4];
     let mut positions = [0u32; 4];
@@ -206,14 +224,22 @@ fn recording_example(bytes: &[u8]) {
 
 fn main() {
     tables();
-    example(b"c", &[4i32, 9, 6, 6], &[5i32, 8, 6, 6, 9, 7, 7, 2, 4, 3, 3]);
+    example(
+        b"c",
+        &[4i32, 9, 6, 6],
+        &[5i32, 8, 6, 6, 9, 7, 7, 2, 4, 3, 3],
+    );
     example(b"d", &[4i32, 9, 6, 6], &[5i32, 5, 5, 5, 5]);
     example(b"e", &[4i32, 9, 6, 6], &[1i32, 2, 3, 4, 5]);
     example(b"f", &[7i32], &[3i32, 3]);
     example(b"g", &[4i32, 9, 6, 6], &[1i32, 2, 3]);
     example(b"h", &[4i32, 9, 6, 6], &[4i32, 9, 7, 6]);
     example(b"i", &[1i32, 2, 3], &[1i32, 2, 3, 4, 5]);
-    example(b"j", &[-2147483648i32, 2147483647], &[2147483647i32, -2147483648, 0]);
+    example(
+        b"j",
+        &[-2147483648i32, 2147483647],
+        &[2147483647i32, -2147483648, 0],
+    );
     sizes(1, 65536);
     sizes(4, 65536);
     sizes(1024, 65536);

@@ -3,6 +3,7 @@ pub mod Tests
 pub mod Orders
 pub mod Examples
 pub mod Lists
+pub mod Filling
 pub mod Equivalences
 pub mod Isomorphisms
 pub mod Nearest

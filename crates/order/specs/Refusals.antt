@@ -55,6 +55,15 @@ pub data Verdict : Type 0 where
   accepted : Verdict
   refused : Refusal → Verdict
 
+-- a verdict's number is 0 if accepted, and so is its place
+abbrev pub verdictNumber : Verdict → ℕ
+verdictNumber accepted = 0
+verdictNumber (refused r) = numberOf r
+
+abbrev pub verdictPlace : Verdict → ℕ
+verdictPlace accepted = 0
+verdictPlace (refused r) = placeOf r
+
 -- refused where the condition holds, otherwise as what follows says
 abbrev pub refuse : Bool → Refusal → Verdict → Verdict
 refuse true r next = refused r

@@ -9,6 +9,7 @@ use Rattle.order.specs.Sizes.{unused, windowsOf, window, those}
 use Rattle.order.specs.Isomorphic.{isIso}
 use Rattle.order.specs.Duels.{duels, survivors}
 use Rattle.order.specs.Sweeping.{sweepCost, positions}
+use Rattle.order.specs.Refusals.{Verdict, accepted, refused}
 
 -- N, D, S, W and R
 unfoldable pub countsOf : List ℤ → List ℤ → Counts
@@ -32,3 +33,8 @@ over l before = l ++ drop (length l) before
 -- a list, then "unused" up to entry n - 1
 abbrev pub filled : List ℕ → ℕ → List ℕ
 filled l n = l ++ replicate (n - length l) unused
+
+-- what a buffer holds after a call that writes l from entry 0 on: a refused call leaves it as it was
+abbrev pub afterVerdict : {A : Type 0} → Verdict → List A → List A → List A
+afterVerdict accepted l before = over l before
+afterVerdict (refused r) l before = before

@@ -2,5 +2,4 @@
 pub mod Signs
 pub mod Marks
 pub mod Rows
-pub mod Stores
 pub mod Readings

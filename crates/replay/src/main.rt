@@ -28,6 +28,7 @@ use search::Prepared;
 use search::Searched;
 
 const TABLE: usize = 1100;
+
 const SAMPLES: usize = 2100;
 
 const TRACE: usize = 65600;
@@ -35,8 +36,11 @@ const TRACE: usize = 65600;
 const GUARD16: u16 = 43690;
 
 const GUARD32: u32 = 2863311530;
+
 const GUARD8: u8 = 170;
+
 const GUARD_SAMPLE: i32 = -1431655766;
+
 const TEXT: usize = 40000;
 
 fn fill16(table: &mut [u16], value: u16) {

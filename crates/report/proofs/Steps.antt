@@ -23,12 +23,12 @@ use Rattle.search.specs.declared.answers.Prepared.{Prepared}
 use Rattle.search.specs.declared.answers.Prepared.the-variants.{Done as Ready, Refused as NotPrepared}
 use Rattle.search.specs.declared.answers.Searched.{Searched}
 use Rattle.search.specs.declared.answers.Searched.the-variants.{Done as Found, Refused as NotSearched}
-use Rattle.search.specs.Answers.{afterVerdict, preparedBy}
+use Rattle.search.specs.Answers.{preparedBy}
 use Rattle.search.specs.Promises.{PreparePromise}
 use Rattle.search.specs.SearchPromise.{SearchPromise, searchedBy}
 use Rattle.recording.specs.declared.reading.Reading.{Reading}
 use Rattle.recording.specs.declared.reading.Reading.the-variants.{Done, Refused as NotRead}
-use Rattle.recording.specs.Answers.{afterReading}
+use Rattle.order.specs.Written.{afterVerdict}
 use Rattle.recording.specs.Promises.{ReadPromise}
 use Rattle.recording.proofs.Readings.{done-from, unread-from, read-accepted}
 use Rattle.report.specs.Puts.{Listed}
@@ -73,7 +73,7 @@ module _ {bs : List ℕ} {before after : List ℤ} {r : Reading} (p : ReadPromis
   unfolding samplesOf
   samples-are =
       let all : n - 0 ≡ n = omega arith in
-      ap (λ k. take k after) all ∙ ap (take n) (p .samples-after ∙ ap (λ w. afterReading w (samplesOf bs) before) (from .0)) ∙ take-at (samplesOf bs) _ n (length-each _ (sampleCount bs) ∙ sym (from .1))
+      ap (λ k. take k after) all ∙ ap (take n) (p .samples-after ∙ ap (λ w. afterVerdict w (samplesOf bs) before) (from .0)) ∙ take-at (samplesOf bs) _ n (length-each _ (sampleCount bs) ∙ sym (from .1))
 
 -- ---- what is left of the text: the pattern, preparation, or the search is next
 

@@ -18,8 +18,8 @@ use Rattle.order.specs.Refusals.{foreignAt}
 use Rattle.order.proofs.Tests.{clash, or-neither-first, or-neither-second}
 use Rattle.order.proofs.Lists.{Finds, Lowest, lowest-finds, finds-lowest}
 use Rattle.search.specs.Asked.{TablesWritten}
-use Rattle.search.specs.Inside.{FirstDifference, FirstForeign}
-use Rattle.search.proofs.Filling.{over-at}
+use Rattle.search.specs.Asked.{FirstDifference, FirstForeign}
+use Rattle.order.proofs.Filling.{over-at}
 
 -- ---- one table
 

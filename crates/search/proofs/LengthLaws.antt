@@ -8,7 +8,8 @@ use Rattle.order.specs.Refusals.{Verdict, accepted, refused, prepareVerdict, ro
 use Rattle.search.specs.declared.checks.Checked.the-variants.{Fine, Refused}
 use Rattle.search.specs.declared.fitting_lengths.Fitting.{Fitting}
 use Rattle.search.specs.declared.fitting_lengths.Fitting.the-variants.{Fit, Refused as Unfit}
-use Rattle.search.specs.Answers.{checkedBy, verdictNumber, verdictPlace}
+use Rattle.order.specs.Refusals.{verdictNumber, verdictPlace}
+use Rattle.search.specs.Answers.{checkedBy}
 use Rattle.search.specs.Lengths.{lengthsVerdict, lengthsNumber, lengthsPlace, lengthsBy, LengthsPromise}
 use Rattle.search.proofs.Verdicts.{fine-accepted, refused-why}
 use Rattle.search.proofs.VerdictRows.{sizes-through, sizes-stay}

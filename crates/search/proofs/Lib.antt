@@ -4,7 +4,6 @@ pub mod VerdictRows
 pub mod Promised
 pub mod Entries
 pub mod NearestSoFar
-pub mod Filling
 pub mod Comparing
 pub mod TestByEntries
 pub mod Offsets

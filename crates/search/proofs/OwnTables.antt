@@ -9,7 +9,7 @@ use Rattle.order.specs.Sizes.{entry, patternLimit}
 use Rattle.order.specs.Neighbours.{lowOf, highOf, lowTable, highTable}
 use Rattle.order.specs.Written.{over}
 use Rattle.search.specs.Asked.{OwnNeighbours}
-use Rattle.search.proofs.Filling.{over-at}
+use Rattle.order.proofs.Filling.{over-at}
 
 pub own-neighbours : (P : List ℤ) (low high : List ℕ) {low' high' : List ℕ} → length P ≤ patternLimit →
     length P ≤ length low' → length P ≤ length high' → low' ≡ over (lowTable P) low → high' ≡ over (highTable P) high →

@@ -21,7 +21,9 @@ use Rattle.search.specs.declared.answers.Prepared.{Prepared}
 use Rattle.search.specs.declared.answers.Prepared.the-variants.{Done, Refused as NotPrepared}
 use Rattle.search.specs.declared.answers.Agreement.{Agreement}
 use Rattle.search.specs.declared.answers.Agreement.the-variants.{Refused as NotCompared}
-use Rattle.search.specs.Answers.{checkedBy, verdictNumber, verdictPlace, afterVerdict, preparedBy, agreementNumber, agreementPlace, saysAgree, agreementOf, agreementBy}
+use Rattle.order.specs.Refusals.{verdictNumber, verdictPlace}
+use Rattle.order.specs.Written.{afterVerdict}
+use Rattle.search.specs.Answers.{checkedBy, preparedBy, agreementNumber, agreementPlace, saysAgree, agreementOf, agreementBy}
 use Rattle.search.specs.Asked.{TablesWritten}
 use Rattle.search.specs.Promises.{PreparePromise, AgreePromise}
 use Rattle.search.proofs.Verdicts.{fine-accepted, refused-why}

@@ -28,9 +28,11 @@ use Rattle.order.proofs.Whole.{demands-hold}
 use Rattle.search.specs.declared.checks.Checked.the-variants.{Fine, Refused}
 use Rattle.search.specs.declared.answers.Searched.{Searched}
 use Rattle.search.specs.declared.answers.Searched.the-variants.{Done, Refused as NotSearched}
-use Rattle.search.specs.Answers.{checkedBy, verdictNumber, verdictPlace, afterVerdict}
+use Rattle.order.specs.Refusals.{verdictNumber, verdictPlace}
+use Rattle.order.specs.Written.{afterVerdict}
+use Rattle.search.specs.Answers.{checkedBy}
 use Rattle.search.specs.Asked.{OwnNeighbours}
-use Rattle.search.specs.Inside.{OwnWitnesses, Searchable, SearchedOf}
+use Rattle.search.specs.Asked.{OwnWitnesses, Searchable, SearchedOf}
 use Rattle.search.specs.SearchPromise.{SearchPromise, searchedNumber, searchedPlace, searchedBy}
 use Rattle.search.proofs.Verdicts.{fine-accepted, refused-why, passed, pattern-passed, tables-passed}
 use Rattle.search.proofs.ForeignEntries.{passes-same}

@@ -12,7 +12,7 @@ use Rattle.order.specs.Sizes.{each, entry, noPlace}
 use Rattle.order.specs.Witnesses.{witnessI, witnessJ, witnessITable, witnessJTable}
 use Rattle.order.specs.Written.{over}
 use Rattle.search.specs.Asked.{OwnWitness, OwnBelow, Stretched}
-use Rattle.search.proofs.Filling.{Filled, filled-first, filled-more, filled-all, filled-at}
+use Rattle.order.proofs.Filling.{Filled, filled-first, filled-more, filled-all, filled-at}
 use Rattle.search.proofs.Stretches.{stretch-none, first-offset}
 
 -- before offset a: the offsets below it are written over what the tables held after offset 0 was, and the stretch is known

@@ -24,7 +24,7 @@ use Rattle.search.specs.declared.checks.Checked.{Checked}
 use Rattle.search.specs.declared.checks.Checked.the-variants.{Fine, Refused}
 use Rattle.search.specs.Answers.{checkedBy}
 use Rattle.search.specs.Asked.{Room, OwnNeighbours}
-use Rattle.search.specs.Inside.{OwnWitnesses, Searchable, FirstForeign}
+use Rattle.search.specs.Asked.{OwnWitnesses, Searchable, FirstForeign}
 use Rattle.search.proofs.Verdicts.{refused-why}
 use Rattle.search.proofs.ForeignEntries.{passes-same}
 

@@ -11,21 +11,6 @@ use Rattle.search.specs.declared.answers.Prepared.the-variants.{Done, Re
 use Rattle.search.specs.declared.answers.Agreement.{Agreement}
 use Rattle.search.specs.declared.answers.Agreement.the-variants.{Agree, Differ, Refused as NotCompared}
 
--- ---- a verdict: its number is 0 if accepted, and so is its place
-
-abbrev pub verdictNumber : Verdict → ℕ
-verdictNumber accepted = 0
-verdictNumber (refused r) = numberOf r
-
-abbrev pub verdictPlace : Verdict → ℕ
-verdictPlace accepted = 0
-verdictPlace (refused r) = placeOf r
-
--- what a buffer holds after a call that writes l from entry 0 on: a refused call leaves it as it was
-abbrev pub afterVerdict : Verdict → List ℕ → List ℕ → List ℕ
-afterVerdict accepted l before = over l before
-afterVerdict (refused r) l before = before
-
 -- a row of conditions
 abbrev pub checkedBy : Verdict → Checked
 checkedBy accepted = Fine

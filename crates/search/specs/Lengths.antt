@@ -5,7 +5,7 @@ use Rattle.order.specs.Sizes.{windowsOf}
 use Rattle.order.specs.Refusals.{Verdict, accepted, refused, numberOf, placeOf, patternVerdict, tablesVerdict, roomVerdict}
 use Rattle.search.specs.declared.fitting_lengths.Fitting.{Fitting}
 use Rattle.search.specs.declared.fitting_lengths.Fitting.the-variants.{Fit, Refused}
-use Rattle.search.specs.Answers.{verdictNumber, verdictPlace}
+use Rattle.order.specs.Refusals.{verdictNumber, verdictPlace}
 
 -- refusals 1 to 6, in their order
 unfoldable pub lengthsVerdict : ℕ → ℕ → ℕ → ℕ → ℕ → ℕ → ℕ → ℕ → Verdict

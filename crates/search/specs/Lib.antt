@@ -3,7 +3,6 @@
 pub mod Answers
 pub mod Promises
 pub mod Asked
-pub mod Inside
 pub mod Stacks
 pub mod Sweeps
 pub mod SearchPromise

@@ -10,7 +10,9 @@ use Rattle.order.specs.Agree.{agreeByTable}
 use Rattle.order.specs.Refusals.{Verdict, accepted, prepareVerdict, agreeVerdict}
 use Rattle.search.specs.declared.answers.Prepared.{Prepared}
 use Rattle.search.specs.declared.answers.Agreement.{Agreement}
-use Rattle.search.specs.Answers.{verdictNumber, verdictPlace, afterVerdict, preparedNumber, preparedPlace, preparedBy, agreementNumber, agreementPlace, saysAgree, agreementBy}
+use Rattle.order.specs.Refusals.{verdictNumber, verdictPlace}
+use Rattle.order.specs.Written.{afterVerdict}
+use Rattle.search.specs.Answers.{preparedNumber, preparedPlace, preparedBy, agreementNumber, agreementPlace, saysAgree, agreementBy}
 
 -- the verdict on a pattern and its tables
 abbrev pub sizesVerdict : List ℤ → List ℕ → List ℕ → List ℕ → List ℕ → Verdict

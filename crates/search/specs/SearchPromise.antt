@@ -14,7 +14,8 @@ use Rattle.order.specs.Demands.{Demands}
 use Rattle.order.specs.Refusals.{Verdict, accepted, refused, numberOf, placeOf, searchVerdict}
 use Rattle.search.specs.declared.answers.Searched.{Searched}
 use Rattle.search.specs.declared.answers.Searched.the-variants.{Done, Refused}
-use Rattle.search.specs.Answers.{verdictNumber, verdictPlace, afterVerdict}
+use Rattle.order.specs.Refusals.{verdictNumber, verdictPlace}
+use Rattle.order.specs.Written.{afterVerdict}
 
 -- the number and place of each case of the answer
 abbrev pub searchedNumber : Searched → ℕ

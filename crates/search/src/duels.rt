@@ -17,7 +17,7 @@ ghost use lib.ListN.{length, drop};
 ghost use Rattle.order.specs.Sizes.{at};
 ghost use Rattle.order.specs.Relations.{rel};
 ghost use Rattle.order.specs.Duels.{duel as duelOf, meets};
-ghost use Rattle.search.specs.Inside.{Duelable, Meetable, Duels};
+ghost use Rattle.search.specs.Asked.{Duelable, Meetable, Duels};
 ghost use Rattle.search.specs.Stacks.{DuelsOf};
 
 // Whether an arriving window ends on the stack.

@@ -10,7 +10,7 @@ ghost use Prim.Native.Nat.{_≤_, min};
 ghost use lib.ListN.{length};
 ghost use Rattle.order.specs.Sizes.{patternLimit};
 ghost use Rattle.search.specs.Asked.{Room};
-ghost use Rattle.search.specs.Inside.{FirstDifference, FirstForeign};
+ghost use Rattle.search.specs.Asked.{FirstDifference, FirstForeign};
 
 fn smaller(a: usize, b: usize) -> usize
     ensures { λ r. ⌜ r ≡ min a b ⌝ }

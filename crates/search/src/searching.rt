@@ -23,7 +23,7 @@ ghost use Rattle.order.specs.Sizes.{windowsOf, lowest, traceLimit};
 ghost use Rattle.order.specs.Refusals.{accepted, roomVerdict, ownVerdict, foreignAt, searchVerdict};
 ghost use Rattle.search.specs.Answers.{checkedBy};
 ghost use Rattle.search.specs.Asked.{Room};
-ghost use Rattle.search.specs.Inside.{Duels, SurvivorsOf, Listable, PositionsOf, Searchable, SearchedOf};
+ghost use Rattle.search.specs.Asked.{Duels, SurvivorsOf, Listable, PositionsOf, Searchable, SearchedOf};
 ghost use Rattle.search.specs.SearchPromise.{SearchPromise};
 
 // N: how many windows of m samples a trace of n has.

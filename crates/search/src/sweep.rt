@@ -12,7 +12,7 @@ ghost use mathlib.Core.Path.{_≡_};
 ghost use mathlib.Core.Bool.{cond};
 ghost use Prim.Native.Nat.{ℕ, _+_, _<_, _≤_, max};
 ghost use lib.ListN.{length, drop, set};
-ghost use Rattle.search.specs.Inside.{Sweepable, Sweeps};
+ghost use Rattle.search.specs.Asked.{Sweepable, Sweeps};
 ghost use Rattle.search.specs.Sweeps.{SweptOne, SweepOf};
 
 // Where the tests of one survivor end: E, the comparisons spent so far, and whether all its places passed.

@@ -6,7 +6,7 @@ use native.Mathlib.Omega.{arith}
 use denote.Ref.{now}
 use lib.ListN.{length, getD}
 use Rattle.order.specs.Duels.{meets, duel as duelOf}
-use Rattle.search.specs.Inside.{Duelable}
+use Rattle.search.specs.Asked.{Duelable}
 use Rattle.search.proofs.MeetingByTable.{Entries, Facing, far-agree, by-offset, none-agrees, some-duels, duelable, meeting-told, apart}
 use borrow.Author.Needs.{needs}
 use Rattle.search.proofs.duels.meet.Statement.{statement}

@@ -8,7 +8,7 @@ use native.Mathlib.Omega.{arith}
 use lib.ListN.{length}
 use Rattle.order.specs.Sizes.{entry}
 use Rattle.order.specs.Neighbours.{lowOf, highOf, lowTable, highTable}
-use Rattle.search.proofs.Filling.{Filled, filled-none, filled-more, filled-all}
+use Rattle.order.proofs.Filling.{Filled, filled-none, filled-more, filled-all}
 use borrow.Author.Needs.{needs}
 use Rattle.search.proofs.neighbours.write_neighbours.Statement.{statement}
 use Rattle.search.proofs.neighbours.write_neighbours.Tie as tie
