@@ -1,0 +1,7 @@
+// The entry points for a C host: preparation and search on little-endian bytes.
+//
+// Follows docs/RULES.md, "The C entry points". Thin over the crate `search`: lengths are checked, bytes become numbers in local
+// arrays, the library is called, and what it wrote becomes bytes again. The stack that each call takes is said in its file.
+
+mod buffers;
+mod words;
