@@ -2,3 +2,5 @@
 pub mod Signs
 pub mod Digits
 pub mod Lists
+pub mod Numbers
+pub mod PrepareLaws

@@ -4,4 +4,8 @@
 // arrays, the library is called, and what it wrote becomes bytes again. The stack that each call takes is said in its file.
 
 mod buffers;
+mod preparing;
+mod results;
 mod words;
+
+pub use preparing::tension_prepare;
