@@ -4,3 +4,5 @@ pub mod Digits
 pub mod Lists
 pub mod Numbers
 pub mod PrepareLaws
+pub mod AnswerLaws
+pub mod SearchingLaws

@@ -95,6 +95,15 @@ lengths-of-none (suc m) low high wi wj =
     let none : windowsOf (suc m) 0 ≡ 0 = omega (arith, windowsOf-as (suc m) 0) in
     rw none refl
 
+-- the verdict behind a look at the lengths
+pub fit-case : (v : Verdict) (w n : ℕ) → Fit n ≡ lengthsBy v w → (v ≡ accepted) × (n ≡ w)
+fit-case accepted w n e = (refl, cc)
+fit-case (refused why) w n e = (cc, cc)
+
+pub refused-case : (v : Verdict) (w : ℕ) (why : Refusal) → Refused why ≡ lengthsBy v w → v ≡ refused why
+refused-case accepted w why e = cc
+refused-case (refused r) w why e = cc
+
 module _ (pattern low high wi wj : List ℕ) where
   abbrev verdict : Verdict
   verdict = prepareCase pattern low high wi wj
@@ -105,22 +114,14 @@ module _ (pattern low high wi wj : List ℕ) where
   by-case : {r : Fitting} → Looked r → r ≡ lengthsBy verdict (windowsOf (length pattern / 4) 0)
   by-case p = p .answer ∙ ap (λ v. lengthsBy v (windowsOf (length pattern / 4) 0)) (lengths-of-none (length pattern / 4) (length low / 2) (length high / 2) (length wi / 2) (length wj / 2))
 
-  fit-case : (v : Verdict) (w n : ℕ) → Fit n ≡ lengthsBy v w → v ≡ accepted
-  fit-case accepted w n e = refl
-  fit-case (refused why) w n e = cc
-
-  refused-case : (v : Verdict) (w : ℕ) (why : Refusal) → Refused why ≡ lengthsBy v w → v ≡ refused why
-  refused-case accepted w why e = cc
-  refused-case (refused r) w why e = cc
-
   pub fit-room : (n : ℕ) {r : Fitting} → Looked r → r ≡ Fit n → Room (length pattern / 4) (length low / 2) (length high / 2) (length wi / 2) (length wj / 2)
-  fit-room n p e = prepare-room _ _ _ _ _ (fit-case verdict _ n (sym e ∙ by-case p))
+  fit-room n p e = prepare-room _ _ _ _ _ (fit-case verdict _ n (sym e ∙ by-case p) .0)
 
   pub prepare-put : (n : ℕ) {r : Fitting} {low' high' wi' wj' : List ℕ} → Looked r → r ≡ Fit n
       → TablesPut (lowTable (samplesIn pattern)) (highTable (samplesIn pattern)) (witnessITable (samplesIn pattern)) (witnessJTable (samplesIn pattern)) low high wi wj low' high' wi' wj'
       → HostPrepare pattern low high wi wj 0 low' high' wi' wj'
   prepare-put n p e t =
-      let a : verdict ≡ accepted = fit-case verdict _ n (sym e ∙ by-case p) in
+      let a : verdict ≡ accepted = fit-case verdict _ n (sym e ∙ by-case p) .0 in
       record { result = rw a refl; low-after = rw a (t .low-put); high-after = rw a (t .high-put); witness-i-after = rw a (t .witness-i-put); witness-j-after = rw a (t .witness-j-put) }
 
   pub prepare-refused : (why : Refusal) {r : Fitting} {code : ℕ} → Looked r → r ≡ Refused why → code ≡ codedRefusal why → HostPrepare pattern low high wi wj code low high wi wj

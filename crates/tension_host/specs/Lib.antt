@@ -4,3 +4,4 @@ pub mod Bytes
 pub mod Results
 pub mod HostPromises
 pub mod Inside
+pub mod Fitting
