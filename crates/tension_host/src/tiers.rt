@@ -1,0 +1,222 @@
+// The entry point of a search, and its two sizes of local arrays: a small call does not pay for the large ones.
+//
+// Follows docs/RULES.md, "The C entry points", "What is written" and "Refusals", numbers 1 to 7. The lengths are checked before
+// anything is converted, and the tables before anything is written, so a refused call has written no byte. An accepted one takes
+// what `search::search` does and a turn for each sample and entry. Stack: 12 KB for the pattern and its tables, and for the trace
+// and the two lists 24 KB up to 2,048 samples and 768 KB above.
+
+use crate::answering::put_answer;
+use crate::buffers::take_samples;
+use crate::results::coded;
+use crate::searching::search_samples;
+use search::Fitting;
+ghost use Prim.Native.Nat.{_/_, _≤_};
+ghost use lib.ListN.{length};
+ghost use Rattle.tension_host.specs.HostPromises.{HostSearch};
+ghost use Rattle.tension_host.specs.Fitting.{Fits, Work, WorkArrays};
+
+// The longest trace of a small call, in samples.
+const SMALL: usize = 2048;
+
+// Searches with lists of exactly the trace's samples, and of an entry a window.
+fn search_with(
+    pattern: &[u8],
+    low: &[u8],
+    high: &[u8],
+    witness_i: &[u8],
+    witness_j: &[u8],
+    trace: &[u8],
+    samples: &mut [i32],
+    kept: &mut [u32],
+    listed: &mut [u32],
+    survivors: &mut [u8],
+    positions: &mut [u8],
+    counts: &mut [u8],
+    windows: usize,
+) -> u64
+    requires { ⌜ Fits (length (now pattern)) (length (now low)) (length (now high)) (length (now «witness_i»)) (length (now «witness_j»)) (length (now trace)) (length (now survivors)) (length (now positions)) windows ⌝ }
+    requires { ⌜ Work (length (now trace)) windows (length (now samples)) (length (now kept)) (length (now listed)) ⌝ }
+    ensures { λ r. ⌜ HostSearch (now (pattern .entry)) (now (low .entry)) (now (high .entry)) (now («witness_i» .entry)) (now («witness_j» .entry)) (now (trace .entry)) (now (survivors .entry)) (now (positions .entry)) (now (counts .entry)) r (now (survivors .exit)) (now (positions .exit)) (now (counts .exit)) ⌝ }
+{
+    take_samples(trace, samples);
+    let answer = search_samples(
+        pattern,
+        low,
+        high,
+        witness_i,
+        witness_j,
+        samples,
+        kept,
+        listed,
+    );
+    put_answer(answer, kept, listed, survivors, positions, counts)
+}
+
+// Lends from arrays, for any trace of their size, the parts that this one needs.
+fn search_in_arrays(
+    pattern: &[u8],
+    low: &[u8],
+    high: &[u8],
+    witness_i: &[u8],
+    witness_j: &[u8],
+    trace: &[u8],
+    samples: &mut [i32],
+    kept: &mut [u32],
+    listed: &mut [u32],
+    survivors: &mut [u8],
+    positions: &mut [u8],
+    counts: &mut [u8],
+    windows: usize,
+) -> u64
+    requires { ⌜ Fits (length (now pattern)) (length (now low)) (length (now high)) (length (now «witness_i»)) (length (now «witness_j»)) (length (now trace)) (length (now survivors)) (length (now positions)) windows ⌝ }
+    requires { ⌜ WorkArrays (length (now trace) / 4) (length (now samples)) (length (now kept)) (length (now listed)) ⌝ }
+    ensures { λ r. ⌜ HostSearch (now (pattern .entry)) (now (low .entry)) (now (high .entry)) (now («witness_i» .entry)) (now («witness_j» .entry)) (now (trace .entry)) (now (survivors .entry)) (now (positions .entry)) (now (counts .entry)) r (now (survivors .exit)) (now (positions .exit)) (now (counts .exit)) ⌝ }
+{
+    let n = trace.len() / 4;
+    search_with(
+        pattern,
+        low,
+        high,
+        witness_i,
+        witness_j,
+        trace,
+        &mut samples[0..n],
+        &mut kept[0..windows],
+        &mut listed[0..windows],
+        survivors,
+        positions,
+        counts,
+        windows,
+    )
+}
+
+// Up to 2,048 samples.
+fn search_small(
+    pattern: &[u8],
+    low: &[u8],
+    high: &[u8],
+    witness_i: &[u8],
+    witness_j: &[u8],
+    trace: &[u8],
+    survivors: &mut [u8],
+    positions: &mut [u8],
+    counts: &mut [u8],
+    windows: usize,
+) -> u64
+    requires { ⌜ length (now trace) / 4 ≤ 2048 ⌝ }
+    requires { ⌜ Fits (length (now pattern)) (length (now low)) (length (now high)) (length (now «witness_i»)) (length (now «witness_j»)) (length (now trace)) (length (now survivors)) (length (now positions)) windows ⌝ }
+    ensures { λ r. ⌜ HostSearch (now (pattern .entry)) (now (low .entry)) (now (high .entry)) (now («witness_i» .entry)) (now («witness_j» .entry)) (now (trace .entry)) (now (survivors .entry)) (now (positions .entry)) (now (counts .entry)) r (now (survivors .exit)) (now (positions .exit)) (now (counts .exit)) ⌝ }
+{
+    let mut samples = [0i32; 2048];
+    let mut kept = [0u32; 2048];
+    let mut listed = [0u32; 2048];
+    search_in_arrays(
+        pattern,
+        low,
+        high,
+        witness_i,
+        witness_j,
+        trace,
+        &mut samples,
+        &mut kept,
+        &mut listed,
+        survivors,
+        positions,
+        counts,
+        windows,
+    )
+}
+
+// Up to 65,536 samples.
+fn search_large(
+    pattern: &[u8],
+    low: &[u8],
+    high: &[u8],
+    witness_i: &[u8],
+    witness_j: &[u8],
+    trace: &[u8],
+    survivors: &mut [u8],
+    positions: &mut [u8],
+    counts: &mut [u8],
+    windows: usize,
+) -> u64
+    requires { ⌜ Fits (length (now pattern)) (length (now low)) (length (now high)) (length (now «witness_i»)) (length (now «witness_j»)) (length (now trace)) (length (now survivors)) (length (now positions)) windows ⌝ }
+    ensures { λ r. ⌜ HostSearch (now (pattern .entry)) (now (low .entry)) (now (high .entry)) (now («witness_i» .entry)) (now («witness_j» .entry)) (now (trace .entry)) (now (survivors .entry)) (now (positions .entry)) (now (counts .entry)) r (now (survivors .exit)) (now (positions .exit)) (now (counts .exit)) ⌝ }
+{
+    let mut samples = [0i32; 65536];
+    let mut kept = [0u32; 65536];
+    let mut listed = [0u32; 65536];
+    search_in_arrays(
+        pattern,
+        low,
+        high,
+        witness_i,
+        witness_j,
+        trace,
+        &mut samples,
+        &mut kept,
+        &mut listed,
+        survivors,
+        positions,
+        counts,
+        windows,
+    )
+}
+
+// Searches a trace of 4-byte samples: survivors, positions and counts of 4 bytes each are written, or nothing is.
+#[no_mangle]
+pub extern "C" fn tension_search(
+    pattern: &[u8],
+    low: &[u8],
+    high: &[u8],
+    witness_i: &[u8],
+    witness_j: &[u8],
+    trace: &[u8],
+    survivors: &mut [u8],
+    positions: &mut [u8],
+    counts: &mut [u8],
+) -> u64
+    ensures { λ r. ⌜ HostSearch (now (pattern .entry)) (now (low .entry)) (now (high .entry)) (now («witness_i» .entry)) (now («witness_j» .entry)) (now (trace .entry)) (now (survivors .entry)) (now (positions .entry)) (now (counts .entry)) r (now (survivors .exit)) (now (positions .exit)) (now (counts .exit)) ⌝ }
+{
+    let n = trace.len() / 4;
+    match search::lengths(
+        pattern.len() / 4,
+        low.len() / 2,
+        high.len() / 2,
+        witness_i.len() / 2,
+        witness_j.len() / 2,
+        n,
+        survivors.len() / 4,
+        positions.len() / 4,
+    ) {
+        Fitting::Refused(why) => coded(why),
+        Fitting::Fit(windows) => {
+            if n <= SMALL {
+                return search_small(
+                    pattern,
+                    low,
+                    high,
+                    witness_i,
+                    witness_j,
+                    trace,
+                    survivors,
+                    positions,
+                    counts,
+                    windows,
+                );
+            }
+            search_large(
+                pattern,
+                low,
+                high,
+                witness_i,
+                witness_j,
+                trace,
+                survivors,
+                positions,
+                counts,
+                windows,
+            )
+        }
+    }
+}
