@@ -8,7 +8,7 @@ use lib.ListN.{length, drop, drop-of-length-le}
 use Rattle.order.specs.Sizes.{each}
 use Rattle.order.specs.Written.{over}
 use Rattle.order.proofs.Lists.{length-each}
-use Rattle.search.proofs.Filling.{Filled, filled-all}
+use Rattle.order.proofs.Filling.{Filled, filled-all}
 
 pub over-whole : {A : Type 0} (l before : List A) → length before ≤ length l → over l before ≡ l
 over-whole l before h = ap (λ r. l ++ r) (drop-of-length-le before h) ∙ append-nil l

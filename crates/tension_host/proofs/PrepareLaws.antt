@@ -18,7 +18,7 @@ use Rattle.order.proofs.Lists.{length-each, windowsOf-as}
 use Rattle.search.specs.declared.answers.Prepared.{Prepared}
 use Rattle.search.specs.declared.fitting_lengths.Fitting.{Fitting}
 use Rattle.search.specs.declared.fitting_lengths.Fitting.the-variants.{Fit, Refused}
-use Rattle.search.specs.Answers.{afterVerdict}
+use Rattle.order.specs.Written.{afterVerdict}
 use Rattle.search.specs.Asked.{Room}
 use Rattle.search.specs.Promises.{PreparePromise, sizesVerdict}
 use Rattle.search.specs.Lengths.{lengthsVerdict, lengthsBy, LengthsPromise}

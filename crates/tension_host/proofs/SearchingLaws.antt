@@ -24,7 +24,7 @@ use Rattle.search.specs.declared.answers.Searched.{Searched}
 use Rattle.search.specs.declared.answers.Searched.the-variants.{Done, Refused}
 use Rattle.search.specs.declared.fitting_lengths.Fitting.{Fitting}
 use Rattle.search.specs.declared.fitting_lengths.Fitting.the-variants.{Fit, Refused as Unfit}
-use Rattle.search.specs.Answers.{afterVerdict}
+use Rattle.order.specs.Written.{afterVerdict}
 use Rattle.search.specs.Asked.{Room}
 use Rattle.search.specs.SearchPromise.{SearchPromise, searchedBy}
 use Rattle.search.specs.Lengths.{lengthsVerdict, lengthsBy, LengthsPromise}

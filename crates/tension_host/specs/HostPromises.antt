@@ -12,7 +12,7 @@ use Rattle.order.specs.Duels.{survivors}
 use Rattle.order.specs.Sweeping.{positions}
 use Rattle.order.specs.Written.{countsOf, filled}
 use Rattle.order.specs.Refusals.{Verdict, prepareVerdict, searchVerdict}
-use Rattle.search.specs.Answers.{afterVerdict}
+use Rattle.order.specs.Written.{afterVerdict}
 use Rattle.tension_host.specs.Bytes.{samplesIn, entriesIn, bytesOf}
 use Rattle.tension_host.specs.Results.{coded, countsList}
 
