@@ -13,3 +13,4 @@ mod words;
 
 pub use preparing::tension_prepare;
 pub use tiers::tension_search;
+pub use tiers::tension_search_large;

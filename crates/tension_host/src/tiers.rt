@@ -163,9 +163,10 @@ fn search_large(
     )
 }
 
-// Searches a trace of 4-byte samples: survivors, positions and counts of 4 bytes each are written, or nothing is.
+// The search in the large arrays, whatever the trace's length. It is an entry point of its own so that it stays out of line: made
+// part of `tension_search` its arrays would be in the frame of small calls too.
 #[no_mangle]
-pub extern "C" fn tension_search(
+pub extern "C" fn tension_search_large(
     pattern: &[u8],
     low: &[u8],
     high: &[u8],
@@ -190,33 +191,72 @@ pub extern "C" fn tension_search(
         positions.len() / 4,
     ) {
         Fitting::Refused(why) => coded(why),
-        Fitting::Fit(windows) => {
-            if n <= SMALL {
-                return search_small(
-                    pattern,
-                    low,
-                    high,
-                    witness_i,
-                    witness_j,
-                    trace,
-                    survivors,
-                    positions,
-                    counts,
-                    windows,
-                );
-            }
-            search_large(
-                pattern,
-                low,
-                high,
-                witness_i,
-                witness_j,
-                trace,
-                survivors,
-                positions,
-                counts,
-                windows,
-            )
-        }
+        Fitting::Fit(windows) => search_large(
+            pattern,
+            low,
+            high,
+            witness_i,
+            witness_j,
+            trace,
+            survivors,
+            positions,
+            counts,
+            windows,
+        ),
+    }
+}
+
+// Searches a trace of 4-byte samples: survivors, positions and counts of 4 bytes each are written, or nothing is.
+#[no_mangle]
+pub extern "C" fn tension_search(
+    pattern: &[u8],
+    low: &[u8],
+    high: &[u8],
+    witness_i: &[u8],
+    witness_j: &[u8],
+    trace: &[u8],
+    survivors: &mut [u8],
+    positions: &mut [u8],
+    counts: &mut [u8],
+) -> u64
+    ensures { λ r. ⌜ HostSearch (now (pattern .entry)) (now (low .entry)) (now (high .entry)) (now («witness_i» .entry)) (now («witness_j» .entry)) (now (trace .entry)) (now (survivors .entry)) (now (positions .entry)) (now (counts .entry)) r (now (survivors .exit)) (now (positions .exit)) (now (counts .exit)) ⌝ }
+{
+    let n = trace.len() / 4;
+    if SMALL < n {
+        return tension_search_large(
+            pattern,
+            low,
+            high,
+            witness_i,
+            witness_j,
+            trace,
+            survivors,
+            positions,
+            counts,
+        );
+    }
+    match search::lengths(
+        pattern.len() / 4,
+        low.len() / 2,
+        high.len() / 2,
+        witness_i.len() / 2,
+        witness_j.len() / 2,
+        n,
+        survivors.len() / 4,
+        positions.len() / 4,
+    ) {
+        Fitting::Refused(why) => coded(why),
+        Fitting::Fit(windows) => search_small(
+            pattern,
+            low,
+            high,
+            witness_i,
+            witness_j,
+            trace,
+            survivors,
+            positions,
+            counts,
+            windows,
+        ),
     }
 }
