@@ -29,6 +29,9 @@ echo 5 8 6 6 9 7 7 2 4 3 3 | reference/krec >"$work/trace"
 printf 'windows 8 duels 5 survivors 3 sweep 12 found 3\n0\n3\n7\n' | cmp - "$work/said"
 echo "host: the example prints what it should"
 
+gcc -std=c11 -O2 -Wall -Wextra -Ihost host/stack.c "$archive" -lpthread -o "$work/stack"
+"$work/stack"
+
 replay() { # KIND COUNT SEED [RUNNER...]
   local kind=$1 count=$2 seed=$3
   shift 3
