@@ -2,7 +2,7 @@
 PREFIX ?= /usr/local
 DESTDIR ?=
 
-.PHONY: run test cases host install
+.PHONY: run test cases host install compare
 
 # proves and builds the program, and searches the recording in examples/
 run:
@@ -22,6 +22,13 @@ cases:
 # the archive for C hosts: target/staticlib/libtension_host.a
 host:
 	@rt staticlib tension_host
+
+# our speed beside the same algorithm in C, the KMP matcher and the naive one, as ratios in one run
+compare: host
+	@mkdir -p target
+	@gcc -std=c11 -O3 -Wall -Wextra -Ihost host/compare/compare.c host/compare/matchers.c target/staticlib/libtension_host.a -lm -o target/compare
+	@target/compare --svg target/compare.svg
+	@echo "drawn in target/compare.svg"
 
 install: host
 	install -d "$(DESTDIR)$(PREFIX)/include" "$(DESTDIR)$(PREFIX)/lib/pkgconfig"

@@ -11,8 +11,7 @@ if ! command -v valgrind >/dev/null; then
   apt-get update -qq && apt-get install -y -qq valgrind >/dev/null
 fi
 
-rt staticlib tension_host >"$work/staticlib.log" 2>&1 || { tail -n 20 "$work/staticlib.log"; exit 1; }
-archive=target/staticlib/libtension_host.a
+. tests/archive.inc
 
 printf '#include "tension.h"\nint used(void) { return TENSION_COUNTS; }\n' >"$work/header.c"
 gcc -std=c89 -pedantic -Wall -Werror -Ihost -fsyntax-only "$work/header.c"
