@@ -1,10 +1,10 @@
--- Shows: the worked examples a to j of docs/RULES.md come out of the definitions, and with them a level run, which has the
+-- Shows: the worked examples a to j of docs/RULES.md come out of the definitions, and with them the call on two windows and a level run, which has the
 -- rightmost of several equals as each place's neighbour. One list, one claim, by computation.
 -- Assumes nothing.
 use Prim.Native.Nat.{ℕ, _+_, _-_, _<_, max}
 use mathlib.Core.Path.{_≡_, refl}
 use mathlib.Core.List.{List, [], _∷_, _++_, map, reverse}
-use mathlib.Core.Bool.{Bool, true, false, not, cond, _&&_, _||_}
+use mathlib.Core.Bool.{Bool, true, false, not, cond, _&&_, _||_, Bool·beq}
 use lib.Dec.{leb, ltb, eqb}
 use lib.IntN.{ℤ, pos, negsuc}
 use lib.ListN.{length, getD, take, drop, replicate}
@@ -15,7 +15,7 @@ use Rattle.order.specs.Isomorphic.{allBelow, isIso}
 use Rattle.order.specs.Neighbours.{nearer, nearest, lowOf, highOf, lowTable, highTable}
 use Rattle.order.specs.PlaceTest.{matches, sameSpot, against, thenHigh, testOf, passes, cost, failedAt}
 use Rattle.order.specs.Witnesses.{firstFail, neighbourAt, witnessI, witnessJ, witnessITable, witnessJTable}
-use Rattle.order.specs.Agree.{agree, isNone}
+use Rattle.order.specs.Agree.{agree, isNone, agreeByTable}
 use Rattle.order.specs.Duels.{fallen, duel, byWitness, meets, after, arrive, arriveAll, entrants, duelled, duels, survivors}
 use Rattle.order.specs.Sweeping.{onTest, tests, sweepOne, sweepAll, testsOf, sweptBy, sweepCost, positions}
 use Rattle.order.specs.Written.{occurrences}
@@ -25,6 +25,9 @@ pub data Example : Type 0 where
   tables : List ℤ → List ℕ → List ℕ → List ℕ → List ℕ → Example
   -- a pattern and a trace; N, D, the survivors, W and the listed positions
   searched : List ℤ → List ℤ → ℕ → ℕ → List ℕ → ℕ → List ℕ → Example
+
+  -- a pattern's length, a table of first entries and two windows; whether the call on them says that they agree
+  together : ℕ → List ℕ → ℕ → ℕ → Bool → Example
 
 pub sameList : List ℕ → List ℕ → Bool
 sameList [] [] = true
@@ -38,6 +41,8 @@ right (tables P low high i j) =
 right (searched P T n d s w l) =
     eqb (windowsOf (length P) (length T)) n && (eqb (duels P T) d && (sameList (survivors P T) s &&
     (eqb (sweepCost P T) w && (sameList (positions P T) l && sameList (occurrences P T) l))))
+
+right (together m ws x y b) = Bool·beq (agreeByTable m ws x y) b
 
 pub allRight : List Example → Bool
 allRight [] = true
@@ -73,10 +78,16 @@ examples =
     searched (up (1 ∷ 2 ∷ 3 ∷ [])) (up (1 ∷ 2 ∷ 3 ∷ 4 ∷ 5 ∷ [])) 3 0 (0 ∷ 1 ∷ 2 ∷ []) 4 (0 ∷ 1 ∷ 2 ∷ []) ∷
     -- j
     searched (negsuc 2147483647 ∷ pos 2147483647 ∷ []) (pos 2147483647 ∷ negsuc 2147483647 ∷ pos 0 ∷ []) 2 0 (0 ∷ 1 ∷ []) 2 (1 ∷ []) ∷
+    -- the call on two windows, with b's table: apart by 1, by 3 and turned round, by the pattern's length, by nothing
+    together 4 (∅ ∷ 0 ∷ 0 ∷ ∅ ∷ []) 5 6 false ∷
+    together 4 (∅ ∷ 0 ∷ 0 ∷ ∅ ∷ []) 5 8 true ∷
+    together 4 (∅ ∷ 0 ∷ 0 ∷ ∅ ∷ []) 7 5 false ∷
+    together 4 (∅ ∷ 0 ∷ 0 ∷ ∅ ∷ []) 1 5 true ∷
+    together 4 (0 ∷ 0 ∷ 0 ∷ ∅ ∷ []) 5 5 true ∷
     -- a level run
     tables (up (6 ∷ 6 ∷ 6 ∷ [])) (∅ ∷ 0 ∷ 1 ∷ []) (∅ ∷ 0 ∷ 1 ∷ []) (∅ ∷ ∅ ∷ ∅ ∷ []) (∅ ∷ ∅ ∷ ∅ ∷ []) ∷
     []
 
 pub examples-come-out : allRight examples ≡ true
-unfolding agree isNone allRight right examples sameList entry windowsOf each those lowest orElse rel allBelow isIso nearer nearest lowOf highOf lowTable highTable matches sameSpot against thenHigh testOf passes cost failedAt firstFail neighbourAt witnessI witnessJ witnessITable witnessJTable fallen duel byWitness meets after arrive arriveAll entrants duelled duels survivors onTest tests sweepOne sweepAll testsOf sweptBy sweepCost positions occurrences
+unfolding agree isNone agreeByTable allRight right examples sameList entry windowsOf each those lowest orElse rel allBelow isIso nearer nearest lowOf highOf lowTable highTable matches sameSpot against thenHigh testOf passes cost failedAt firstFail neighbourAt witnessI witnessJ witnessITable witnessJTable fallen duel byWitness meets after arrive arriveAll entrants duelled duels survivors onTest tests sweepOne sweepAll testsOf sweptBy sweepCost positions occurrences
 examples-come-out = refl
