@@ -25,7 +25,6 @@ pub data Example : Type 0 where
   tables : List ℤ → List ℕ → List ℕ → List ℕ → List ℕ → Example
   -- a pattern and a trace; N, D, the survivors, W and the listed positions
   searched : List ℤ → List ℤ → ℕ → ℕ → List ℕ → ℕ → List ℕ → Example
-
   -- a pattern's length, a table of first entries and two windows; whether the call on them says that they agree
   together : ℕ → List ℕ → ℕ → ℕ → Bool → Example
 
@@ -41,7 +40,6 @@ right (tables P low high i j) =
 right (searched P T n d s w l) =
     eqb (windowsOf (length P) (length T)) n && (eqb (duels P T) d && (sameList (survivors P T) s &&
     (eqb (sweepCost P T) w && (sameList (positions P T) l && sameList (occurrences P T) l))))
-
 right (together m ws x y b) = Bool·beq (agreeByTable m ws x y) b
 
 pub allRight : List Example → Bool
