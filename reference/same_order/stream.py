@@ -188,16 +188,21 @@ class Agree:
 
 
 @dataclass
-class Read:
+class OfBytes:
+    """A call on a file's bytes with one lent buffer; `KIND` is its number in the stream."""
     data: bytes
-    room: int                    # length of the sample buffer
+    room: int                    # length of the lent buffer
 
     def encode(self):
-        return put("BI", 4, len(self.data)) + self.data + put("I", self.room)
+        return put("BI", self.KIND, len(self.data)) + self.data + put("I", self.room)
 
     @classmethod
     def decode(cls, reader):
         return cls(reader.bytes(), reader.one("I"))
+
+
+class Read(OfBytes):
+    KIND = 4
 
     def expected(self):
         samples = [GUARD_SAMPLE] * self.room
@@ -206,17 +211,8 @@ class Read:
         return first + show("samples", samples, GUARD_SAMPLE)
 
 
-@dataclass
-class Report:
-    data: bytes
-    room: int                    # length of the output buffer
-
-    def encode(self):
-        return put("BI", 5, len(self.data)) + self.data + put("I", self.room)
-
-    @classmethod
-    def decode(cls, reader):
-        return cls(reader.bytes(), reader.one("I"))
+class Report(OfBytes):
+    KIND = 5
 
     def expected(self):
         text = report.text(self.data)
