@@ -103,7 +103,7 @@ fn example(letter: &[u8], pattern: &[i32], trace: &[i32]) {
     let mut high = [0u16; 8];
     let mut witness_i = [0u16; 8];
     let mut witness_j = [0u16; 8];
-    search::prepare(pattern, &mut low, &mut high, &mut witness_i, &mut witness_j);
+    tables::prepare(pattern, &mut low, &mut high, &mut witness_i, &mut witness_j);
     let mut survivors = [0u32; 16];
     let mut positions = [0u32; 16];
     let answer = search::search(
@@ -128,7 +128,7 @@ fn tables() {
     let mut high = [0u16; 4];
     let mut witness_i = [0u16; 4];
     let mut witness_j = [0u16; 4];
-    search::prepare(
+    tables::prepare(
         &pattern,
         &mut low,
         &mut high,
@@ -153,7 +153,7 @@ fn sizes(m: usize, n: usize) {
     let mut positions = [0u32; 65536];
     if m <= 1025 {
         if n <= 65537 {
-            search::prepare(
+            tables::prepare(
                 &pattern[0..m],
                 &mut low,
                 &mut high,
@@ -183,7 +183,7 @@ fn altered() {
     let mut high = [0u16; 4];
     let mut witness_i = [0u16; 4];
     let mut witness_j = [0u16; 4];
-    search::prepare(
+    tables::prepare(
         &pattern,
         &mut low,
         &mut high,

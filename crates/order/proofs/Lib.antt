@@ -8,6 +8,10 @@ pub mod Equivalences
 pub mod Isomorphisms
 pub mod Nearest
 pub mod PlaceTests
+pub mod Entries
+pub mod Comparing
+pub mod TestByEntries
+pub mod EntrySteps
 pub mod Witnessing
 pub mod Meetings
 pub mod Dueling

@@ -5,6 +5,7 @@ pub mod Isomorphic
 pub mod Equivalence
 pub mod Neighbours
 pub mod PlaceTest
+pub mod EntryTest
 pub mod Witnesses
 pub mod Agree
 pub mod Duels

@@ -5,6 +5,7 @@
 
 mod kinds;
 mod limits;
+mod place_test;
 mod refusal;
 mod relation;
 mod steps;
@@ -16,6 +17,7 @@ pub use limits::NONE;
 pub use limits::PATTERN_LIMIT;
 pub use limits::TRACE_LIMIT;
 pub use limits::UNUSED;
+pub use place_test::test_place;
 pub use refusal::Refusal;
 pub use refusal::Table;
 pub use relation::Relation;

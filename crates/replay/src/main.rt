@@ -24,8 +24,8 @@ use output::put_windows;
 use recording::Reading;
 use report::Reported;
 use search::Agreement;
-use search::Prepared;
 use search::Searched;
+use tables::Prepared;
 
 const TABLE: usize = 1100;
 
@@ -102,7 +102,7 @@ fn prepare_and_show(
     witness_j: &mut [u16],
     out: &mut [u8],
 ) -> usize {
-    let answer = search::prepare(pattern, low, high, witness_i, witness_j);
+    let answer = tables::prepare(pattern, low, high, witness_i, witness_j);
     let at = put_prepared(out, answer);
     show_tables(low, high, witness_i, witness_j, out, at)
 }
@@ -254,7 +254,7 @@ fn search_lent(
     let mut witness_i = [0u16; TABLE];
     let mut witness_j = [0u16; TABLE];
     read_number(1);
-    search::prepare(pattern, &mut low, &mut high, &mut witness_i, &mut witness_j);
+    tables::prepare(pattern, &mut low, &mut high, &mut witness_i, &mut witness_j);
     let a = smaller(read_number(2), TABLE);
     let b = smaller(read_number(2), TABLE);
     let c = smaller(read_number(2), TABLE);

@@ -19,12 +19,12 @@ use Rattle.order.specs.Recordings.{sampleCount, firstSample, samplesOf}
 use Rattle.order.specs.Refusals.{Verdict, accepted, refused, prepareVerdict, searchVerdict, readVerdict}
 use Rattle.order.proofs.Lists.{length-each}
 use Rattle.order.proofs.Whole.{demands-hold}
-use Rattle.search.specs.declared.answers.Prepared.{Prepared}
-use Rattle.search.specs.declared.answers.Prepared.the-variants.{Done as Ready, Refused as NotPrepared}
+use Rattle.tables.specs.declared.answers.Prepared.{Prepared}
+use Rattle.tables.specs.declared.answers.Prepared.the-variants.{Done as Ready, Refused as NotPrepared}
 use Rattle.search.specs.declared.answers.Searched.{Searched}
 use Rattle.search.specs.declared.answers.Searched.the-variants.{Done as Found, Refused as NotSearched}
-use Rattle.search.specs.Answers.{preparedBy}
-use Rattle.search.specs.Promises.{PreparePromise}
+use Rattle.tables.specs.Answers.{preparedBy}
+use Rattle.tables.specs.Promises.{PreparePromise}
 use Rattle.search.specs.SearchPromise.{SearchPromise, searchedBy}
 use Rattle.recording.specs.declared.reading.Reading.{Reading}
 use Rattle.recording.specs.declared.reading.Reading.the-variants.{Done, Refused as NotRead}

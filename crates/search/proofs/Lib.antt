@@ -1,20 +1,9 @@
 -- The laws that the functions' proofs cite, in the order of the argument.
-pub mod Verdicts
-pub mod VerdictRows
-pub mod Promised
-pub mod Entries
-pub mod NearestSoFar
-pub mod Comparing
-pub mod TestByEntries
-pub mod Offsets
-pub mod OwnTables
-pub mod Stretches
-pub mod Turns
-pub mod ForeignEntries
+pub mod SearchVerdicts
+pub mod Agreed
 pub mod MeetingByTable
 pub mod StackLaws
 pub mod SweepSteps
 pub mod FilledUp
 pub mod WrittenOut
 pub mod SearchLaws
-pub mod LengthLaws

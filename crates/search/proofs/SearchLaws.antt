@@ -6,11 +6,10 @@ use mathlib.Core.Path.{_≡_, refl, sym, _∙_, ap, ap₂, subst, subst₂, subs
 use mathlib.Core.List.{List, _++_}
 use mathlib.Core.Bool.{Bool, true, false, not, _||_}
 use native.Mathlib.Omega.{arith}
-use lib.Dec.{ltb, eqb}
+use lib.Dec.{eqb}
 use lib.IntN.{ℤ}
 use lib.ListN.{length, getD, take}
 use lib.Seq.{take-at}
-use borrow.Author.Tests.{ltb-false}
 use Rattle.order.specs.declared.refusal.Refusal.{Refusal}
 use Rattle.order.specs.declared.steps.Counts.{Counts}
 use Rattle.order.specs.Sizes.{Spot, none, place, entry, lowest, patternLimit, traceLimit, windowsOf}
@@ -25,29 +24,21 @@ use Rattle.order.proofs.Tests.{clash, or-neither-first, or-neither-second}
 use Rattle.order.proofs.Lists.{Finds, lowest-finds}
 use Rattle.order.proofs.Dueling.{duels-and-survivors}
 use Rattle.order.proofs.Whole.{demands-hold}
-use Rattle.search.specs.declared.checks.Checked.the-variants.{Fine, Refused}
+use Rattle.tables.specs.declared.fitting_lengths.Fitting.the-variants.{Fit, Refused as Unfit}
 use Rattle.search.specs.declared.answers.Searched.{Searched}
 use Rattle.search.specs.declared.answers.Searched.the-variants.{Done, Refused as NotSearched}
 use Rattle.order.specs.Refusals.{verdictNumber, verdictPlace}
 use Rattle.order.specs.Written.{afterVerdict}
-use Rattle.search.specs.Answers.{checkedBy}
-use Rattle.search.specs.Asked.{OwnNeighbours}
+use Rattle.tables.specs.Lengths.{lengthsBy}
+use Rattle.tables.specs.Asked.{OwnNeighbours}
 use Rattle.search.specs.Asked.{OwnWitnesses, Searchable, SearchedOf}
 use Rattle.search.specs.SearchPromise.{SearchPromise, searchedNumber, searchedPlace, searchedBy}
-use Rattle.search.proofs.Verdicts.{fine-accepted, refused-why, passed, pattern-passed, tables-passed}
-use Rattle.search.proofs.ForeignEntries.{passes-same}
+use Rattle.tables.proofs.Verdicts.{pattern-passed, tables-passed, room-passed}
+use Rattle.tables.proofs.ForeignEntries.{passes-same}
+use Rattle.search.proofs.SearchVerdicts.{fits, unfit}
 use Rattle.search.proofs.WrittenOut.{filled-over, positions-few}
 
 -- ---- what an accepted search has
-
-pub room-passed : (m n survivors positions : ℕ) (next : Verdict) → roomVerdict m n survivors positions next ≡ accepted
-    → (n ≤ traceLimit) × (windowsOf m n ≤ survivors) × (windowsOf m n ≤ positions) × (next ≡ accepted)
-unfolding roomVerdict
-room-passed m n survivors positions next e =
-    let a = passed (ltb traceLimit n) _ _ e in
-    let b = passed (ltb survivors (windowsOf m n)) _ _ (a .1) in
-    let c = passed (ltb positions (windowsOf m n)) _ _ (b .1) in
-    (ltb-false traceLimit n (a .0), ltb-false survivors (windowsOf m n) (b .0), ltb-false positions (windowsOf m n) (c .0), c .1)
 
 own-passed : (s : Spot) → ownVerdict s ≡ accepted → s ≡ none
 unfolding ownVerdict
@@ -88,14 +79,17 @@ module _ (P : List ℤ) (low high wi wj : List ℕ) (e : lowest (foreignAt P low
   j-own : (k : ℕ) → k < length P → getD wj k 0 ≡ entry (witnessJ P k)
   j-own k h = passes-same wj (λ k. entry (witnessJ P k)) k (or-neither-second (off-i k) (off-j k) (or-neither-second (off-high k) (off-i k || off-j k) (rest k h)))
 
-pub search-ready : (P : List ℤ) (low high wi wj : List ℕ) (T : List ℤ) (s p : ℕ) → searchVerdict P low high wi wj T s p ≡ accepted → Searchable P low high wi wj T s p
+pub search-ready : (P : List ℤ) (low high wi wj : List ℕ) (T : List ℤ) (s p : ℕ) {windows : ℕ} → Fit windows ≡ lengthsBy (searchVerdict P low high wi wj T s p) (windowsOf (length P) (length T))
+    → Searchable P low high wi wj T windows s p
 unfolding searchVerdict
-search-ready P low high wi wj T s p e =
-    let a = pattern-passed (length P) _ e in
+search-ready P low high wi wj T s p f =
+    let v = fits (searchVerdict P low high wi wj T s p) (windowsOf (length P) (length T)) f in
+    let a = pattern-passed (length P) _ (v .0) in
     let b = tables-passed (length P) (length low) (length high) (length wi) (length wj) _ (a .2) in
     let c = room-passed (length P) (length T) s p _ (b .4) in
     let o = own-passed (lowest (foreignAt P low high wi wj) (length P)) (c .3) in
     record {
+      number = v .1;
       neighbours = record { limit = a .1; low-room = b .0; high-room = b .1; low-own = low-own P low high wi wj o; high-own = high-own P low high wi wj o };
       witnesses = record { limit = a .1; i-long = b .2; j-long = b .3; i-own = i-own P low high wi wj o; j-own = j-own P low high wi wj o };
       trace = c .0;
@@ -113,9 +107,9 @@ module _ (P : List ℤ) (low high wi wj : List ℕ) (T : List ℤ) (kept listed 
   abbrev verdict : Verdict
   verdict = searchVerdict P low high wi wj T (length kept) (length listed)
 
-  pub search-refused : (why : Refusal) → Refused why ≡ checkedBy verdict → SearchPromise P low high wi wj T kept listed (NotSearched why) kept listed
-  search-refused why e =
-      let w = refused-why verdict why e in
+  pub search-refused : {why : Refusal} → Unfit why ≡ lengthsBy verdict (windowsOf (length P) (length T)) → SearchPromise P low high wi wj T kept listed (NotSearched why) kept listed
+  search-refused e =
+      let w = unfit verdict (windowsOf (length P) (length T)) e in
       record {
         number = rw w refl;
         place = rw w refl;
@@ -125,10 +119,10 @@ module _ (P : List ℤ) (low high wi wj : List ℕ) (T : List ℤ) (kept listed 
         demands = λ c d. absurd (let z : _≡_ {A = ℕ} 0 1 = cc in omega arith);
       }
 
-  pub search-done : {kept' listed' : List ℕ} {c : Counts} → Fine ≡ checkedBy verdict → SearchedOf P T kept listed kept' listed' c → SearchPromise P low high wi wj T kept listed (Done c) kept' listed'
+  pub search-done : {kept' listed' : List ℕ} {c : Counts} {windows : ℕ} → Fit windows ≡ lengthsBy verdict (windowsOf (length P) (length T)) → SearchedOf P T kept listed kept' listed' c → SearchPromise P low high wi wj T kept listed (Done c) kept' listed'
   unfolding countsOf
   search-done {kept'} {listed'} {c} e s =
-      let w = fine-accepted verdict e in
+      let w = fits verdict (windowsOf (length P) (length T)) e .0 in
       record {
         number = rw w refl;
         place = rw w refl;

@@ -6,19 +6,38 @@ use mathlib.Core.List.{List, [], _∷_, _++_, append-nil, append-assoc, List·Me
 use mathlib.Core.Bool.{Bool, true, false, cond}
 use native.Mathlib.Omega.{arith}
 use native.Mathlib.Numerals.{add-one}
-use lib.IntN.{ℤ}
-use lib.ListN.{length, getD, take, drop, set, length-set, length-take, drop-of-length-le}
+use lib.IntN.{ℤ, pos}
+use lib.ListN.{length, getD, take, drop, set, length-set, length-take, length-drop, drop-of-length-le}
 use lib.Seq.{take-suc, drop-cons, take-suc-set, take-set-le, drop-set-lt, getD-take, length-take-le}
 use Rattle.order.specs.declared.steps.Tested.{Tested}
 use Rattle.order.specs.declared.steps.Tested.the-variants.{Passed, Failed}
-use Rattle.order.specs.Sizes.{windowsOf}
+use Rattle.order.specs.Sizes.{at, windowsOf}
+use Rattle.order.specs.Relations.{rel}
 use Rattle.order.specs.PlaceTest.{testOf, cost}
+use Rattle.order.specs.EntryTest.{testBy}
 use Rattle.order.specs.Duels.{survivors}
 use Rattle.order.specs.Sweeping.{Swept, swept, onTest, tests, sweepOne, sweepAll, testsOf, sweptBy, sweepCost, positions}
 use Rattle.order.proofs.Lists.{windowsOf-as}
-use Rattle.order.proofs.PlaceTests.{test-cost}
+use Rattle.order.proofs.PlaceTests.{test-cost, test-depends}
+use Rattle.order.proofs.TestByEntries.{test-by-own}
+use Rattle.tables.specs.Asked.{OwnNeighbours}
 use Rattle.order.proofs.Dueling.{survivors-below}
 use Rattle.search.specs.Sweeps.{SweptOne, SweepOf}
+
+-- ---- a test by the pattern's own entries, on the window's samples alone
+
+pub own-test : {P : List ℤ} {low high : List ℕ} (T : List ℤ) (x j : ℕ) → OwnNeighbours P low high → x + length P ≤ length T → j < length P
+    → testBy (take (x + length P - x) (drop x T)) (getD low j 0) (getD high j 0) j ≡ testOf P (drop x T) j
+own-test {P} {low} {high} T x j own h k =
+    let l = own .limit in
+    test-by-own P (take (x + length P - x) (drop x T)) j (omega (arith, long)) (omega (arith, long)) (own .low-own j k) (own .high-own j k) ∙
+    test-depends P (take (x + length P - x) (drop x T)) (drop x T) j (λ i e. ap₂ rel (same j (omega arith)) (same i (omega arith)))
+  where
+    long : length (take (x + length P - x) (drop x T)) ≡ length P
+    long = let n = length-drop x T in let t : x + length P - x ≤ length (drop x T) = omega arith in length-take-le (x + length P - x) (drop x T) t ∙ omega arith
+
+    same : (i : ℕ) → i < length P → at (take (x + length P - x) (drop x T)) i ≡ at (drop x T) i
+    same i e = getD-take (x + length P - x) (drop x T) i (pos 0) (omega arith)
 
 -- ---- the tests of one survivor
 

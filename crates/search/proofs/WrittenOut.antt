@@ -17,7 +17,7 @@ use Rattle.order.proofs.Dueling.{duels-and-survivors}
 use Rattle.order.proofs.SweepLaws.{sweep-fails, sweep-lists-same}
 use Rattle.search.specs.Stacks.{top, DuelsOf}
 use Rattle.search.specs.Sweeps.{SweepOf}
-use Rattle.search.specs.Asked.{OwnNeighbours}
+use Rattle.tables.specs.Asked.{OwnNeighbours}
 use Rattle.search.specs.Asked.{Duels, Sweeps, Listable, SurvivorsOf, PositionsOf, Searchable, SearchedOf}
 use Rattle.search.proofs.StackLaws.{length-top, reverse-top}
 

@@ -6,4 +6,3 @@ pub mod Asked
 pub mod Stacks
 pub mod Sweeps
 pub mod SearchPromise
-pub mod Lengths

@@ -4,12 +4,6 @@
 use order::Counts;
 use order::Refusal;
 
-// What preparation answers.
-pub enum Prepared {
-    Done,
-    Refused(Refusal),
-}
-
 // What the call on two windows answers.
 pub enum Agreement {
     Agree,

@@ -5,74 +5,23 @@
 // N + 2(n + S) comparisons; the check of the tables takes what preparing them does.
 
 use crate::answers::Searched;
-use crate::checks::Checked;
-use crate::checks::check_prepare;
 use crate::duels::Duelled;
 use crate::duels::duel_all;
-use crate::own_tables::first_foreign;
 use crate::sweep::Swept;
 use crate::sweep::sweep_all;
 use crate::unused_entries::fill_unused;
 use order::Counts;
-use order::Refusal;
-use order::TRACE_LIMIT;
+use tables::Checked;
+use tables::Fitting;
 ghost use mathlib.Core.Path.{_≡_};
-ghost use Prim.Native.Nat.{_≤_};
 ghost use lib.ListN.{length};
-ghost use Rattle.order.specs.Sizes.{windowsOf, lowest, traceLimit};
-ghost use Rattle.order.specs.Refusals.{accepted, roomVerdict, ownVerdict, foreignAt, searchVerdict};
-ghost use Rattle.search.specs.Answers.{checkedBy};
-ghost use Rattle.search.specs.Asked.{Room};
+ghost use Rattle.order.specs.Sizes.{windowsOf};
+ghost use Rattle.order.specs.Refusals.{searchVerdict};
+ghost use Rattle.tables.specs.Lengths.{lengthsBy};
 ghost use Rattle.search.specs.Asked.{Duels, SurvivorsOf, Listable, PositionsOf, Searchable, SearchedOf};
 ghost use Rattle.search.specs.SearchPromise.{SearchPromise};
 
-// N: how many windows of m samples a trace of n has.
-pub(crate) fn count_windows(m: usize, n: usize) -> usize
-    requires { ⌜ n ≤ traceLimit ⌝ }
-    ensures { λ r. ⌜ r ≡ windowsOf m n ⌝ }
-{
-    if m <= n {
-        return n - m + 1;
-    }
-    0
-}
-
-// 4 to 6: the trace's length, and room in the two buffers.
-pub(crate) fn check_room(m: usize, n: usize, survivors: usize, positions: usize) -> Checked
-    ensures { λ r. ⌜ r ≡ checkedBy (roomVerdict m n survivors positions accepted) ⌝ }
-{
-    if TRACE_LIMIT < n {
-        return Checked::Refused(Refusal::LongTrace(n));
-    }
-    let windows = count_windows(m, n);
-    if survivors < windows {
-        return Checked::Refused(Refusal::ShortSurvivors(windows));
-    }
-    if positions < windows {
-        return Checked::Refused(Refusal::ShortPositions(windows));
-    }
-    Checked::Fine
-}
-
-// 7: the tables are the pattern's own.
-fn check_own(
-    pattern: &[i32],
-    low: &[u16],
-    high: &[u16],
-    witness_i: &[u16],
-    witness_j: &[u16],
-) -> Checked
-    requires { ⌜ Room (length (now pattern)) (length (now low)) (length (now high)) (length (now «witness_i»)) (length (now «witness_j»)) ⌝ }
-    ensures { λ r. ⌜ r ≡ checkedBy (ownVerdict (lowest (foreignAt (now (pattern .entry)) (now (low .entry)) (now (high .entry)) (now («witness_i» .entry)) (now («witness_j» .entry))) (length (now (pattern .entry))))) ⌝ }
-{
-    let at = first_foreign(pattern, low, high, witness_i, witness_j);
-    if at < pattern.len() {
-        return Checked::Refused(Refusal::ForeignEntry(at));
-    }
-    Checked::Fine
-}
-
-// All the conditions of a search, in the order of their numbers.
+// All the conditions of a search, in the order of their numbers; where none holds, the number of windows.
 fn check_search(
     pattern: &[i32],
     low: &[u16],
@@ -82,24 +31,27 @@ fn check_search(
     trace: &[i32],
     survivors: usize,
     positions: usize,
-) -> Checked
-    ensures { λ r. ⌜ r ≡ checkedBy (searchVerdict (now (pattern .entry)) (now (low .entry)) (now (high .entry)) (now («witness_i» .entry)) (now («witness_j» .entry)) (now (trace .entry)) survivors positions) ⌝ }
+) -> Fitting
+    ensures { λ r. ⌜ r ≡ lengthsBy (searchVerdict (now (pattern .entry)) (now (low .entry)) (now (high .entry)) (now («witness_i» .entry)) (now («witness_j» .entry)) (now (trace .entry)) survivors positions) (windowsOf (length (now (pattern .entry))) (length (now (trace .entry)))) ⌝ }
 {
-    let sizes = check_prepare(
+    match tables::lengths(
         pattern.len(),
         low.len(),
         high.len(),
         witness_i.len(),
         witness_j.len(),
-    );
-    let Checked::Fine = sizes else {
-        return sizes;
-    };
-    let room = check_room(pattern.len(), trace.len(), survivors, positions);
-    let Checked::Fine = room else {
-        return room;
-    };
-    check_own(pattern, low, high, witness_i, witness_j)
+        trace.len(),
+        survivors,
+        positions,
+    ) {
+        Fitting::Refused(why) => Fitting::Refused(why),
+        Fitting::Fit(windows) => {
+            match tables::check_tables(pattern, low, high, witness_i, witness_j) {
+                Checked::Refused(why) => Fitting::Refused(why),
+                Checked::Fine => Fitting::Fit(windows),
+            }
+        }
+    }
 }
 
 // The duels, and "unused" after the survivors.
@@ -148,13 +100,13 @@ fn run(
     witness_i: &[u16],
     witness_j: &[u16],
     trace: &[i32],
+    windows: usize,
     survivors: &mut [u32],
     positions: &mut [u32],
 ) -> Counts
-    requires { ⌜ Searchable (now pattern) (now low) (now high) (now «witness_i») (now «witness_j») (now trace) (length (now survivors)) (length (now positions)) ⌝ }
+    requires { ⌜ Searchable (now pattern) (now low) (now high) (now «witness_i») (now «witness_j») (now trace) windows (length (now survivors)) (length (now positions)) ⌝ }
     ensures { λ r. ⌜ SearchedOf (now (pattern .entry)) (now (trace .entry)) (now (survivors .entry)) (now (positions .entry)) (now (survivors .exit)) (now (positions .exit)) r ⌝ }
 {
-    let windows = count_windows(pattern.len(), trace.len());
     let duelled = find_survivors(pattern, witness_i, witness_j, trace, windows, survivors);
     let kept = duelled.kept;
     let swept = list_positions(
@@ -200,14 +152,15 @@ pub fn search(
         survivors.len(),
         positions.len(),
     ) {
-        Checked::Refused(why) => Searched::Refused(why),
-        Checked::Fine => Searched::Done(run(
+        Fitting::Refused(why) => Searched::Refused(why),
+        Fitting::Fit(windows) => Searched::Done(run(
             pattern,
             low,
             high,
             witness_i,
             witness_j,
             trace,
+            windows,
             survivors,
             positions,
         )),

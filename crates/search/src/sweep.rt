@@ -4,10 +4,10 @@
 // Follows docs/RULES.md, "Sweep" (Jargalsaikhan 2022, section 3, counted from zero). E only rises and each survivor fails at
 // most once, so the sweep spends at most 2(n + S) comparisons. Callers hand over the pattern's own tables and its survivors.
 
-use crate::place_test::test_place;
 use order::Place;
 use order::Tested;
 use order::Window;
+use order::test_place;
 ghost use mathlib.Core.Path.{_≡_};
 ghost use mathlib.Core.Bool.{cond};
 ghost use Prim.Native.Nat.{ℕ, _+_, _<_, _≤_, max};
@@ -55,11 +55,12 @@ fn sweep_one(
 {
     let start = x.0;
     let stop = start + pattern.len();
+    let window = &trace[start..stop];
     let mut reach = from;
     let mut spent = before;
     while reach < stop {
         let j = reach - start;
-        match test_place(pattern, low[j], high[j], trace, start, Place(j)) {
+        match test_place(low[j], high[j], window, Place(j)) {
             Tested::Passed(cost) => {
                 spent += cost;
                 reach += 1;

@@ -3,11 +3,11 @@
 // Follows docs/RULES.md, "Agree". It reads one entry at most, and takes it as it stands.
 
 use crate::answers::Agreement;
-use crate::checks::Checked;
 use crate::checks::check_agree;
 use order::NONE;
 use order::Offset;
 use order::Window;
+use tables::Checked;
 ghost use mathlib.Core.Path.{_≡_};
 ghost use mathlib.Core.Bool.{_||_};
 ghost use Prim.Native.Nat.{_≤_};

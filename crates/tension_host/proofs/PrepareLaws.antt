@@ -15,14 +15,14 @@ use Rattle.order.specs.Witnesses.{witnessITable, witnessJTable}
 use Rattle.order.specs.Refusals.{Verdict, accepted, refused, patternVerdict, witnessesVerdict, tablesVerdict, roomVerdict, prepareVerdict}
 use Rattle.order.specs.Written.{over}
 use Rattle.order.proofs.Lists.{length-each, windowsOf-as}
-use Rattle.search.specs.declared.answers.Prepared.{Prepared}
-use Rattle.search.specs.declared.fitting_lengths.Fitting.{Fitting}
-use Rattle.search.specs.declared.fitting_lengths.Fitting.the-variants.{Fit, Refused}
+use Rattle.tables.specs.declared.answers.Prepared.{Prepared}
+use Rattle.tables.specs.declared.fitting_lengths.Fitting.{Fitting}
+use Rattle.tables.specs.declared.fitting_lengths.Fitting.the-variants.{Fit, Refused}
 use Rattle.order.specs.Written.{afterVerdict}
-use Rattle.search.specs.Asked.{Room}
-use Rattle.search.specs.Promises.{PreparePromise, sizesVerdict}
-use Rattle.search.specs.Lengths.{lengthsVerdict, lengthsBy, LengthsPromise}
-use Rattle.search.proofs.Verdicts.{prepare-room}
+use Rattle.tables.specs.Asked.{Room}
+use Rattle.tables.specs.Promises.{PreparePromise, sizesVerdict}
+use Rattle.tables.specs.Lengths.{lengthsVerdict, lengthsBy, LengthsPromise}
+use Rattle.tables.proofs.Verdicts.{prepare-room}
 use Rattle.tension_host.specs.Bytes.{firstSamples, samplesIn}
 use Rattle.tension_host.specs.Results.{codedRefusal}
 use Rattle.tension_host.specs.HostPromises.{HostPrepare, prepareCase}

@@ -22,14 +22,14 @@ use Rattle.order.specs.Written.{countsOf, over, filled}
 use Rattle.order.proofs.Lists.{length-each, getD-each, windowsOf-as}
 use Rattle.search.specs.declared.answers.Searched.{Searched}
 use Rattle.search.specs.declared.answers.Searched.the-variants.{Done, Refused}
-use Rattle.search.specs.declared.fitting_lengths.Fitting.{Fitting}
-use Rattle.search.specs.declared.fitting_lengths.Fitting.the-variants.{Fit, Refused as Unfit}
+use Rattle.tables.specs.declared.fitting_lengths.Fitting.{Fitting}
+use Rattle.tables.specs.declared.fitting_lengths.Fitting.the-variants.{Fit, Refused as Unfit}
 use Rattle.order.specs.Written.{afterVerdict}
-use Rattle.search.specs.Asked.{Room}
+use Rattle.tables.specs.Asked.{Room}
 use Rattle.search.specs.SearchPromise.{SearchPromise, searchedBy}
-use Rattle.search.specs.Lengths.{lengthsVerdict, lengthsBy, LengthsPromise}
-use Rattle.search.proofs.Verdicts.{pattern-passed, tables-passed}
-use Rattle.search.proofs.SearchLaws.{room-passed}
+use Rattle.tables.specs.Lengths.{lengthsVerdict, lengthsBy, LengthsPromise}
+use Rattle.tables.proofs.Verdicts.{pattern-passed, tables-passed}
+use Rattle.tables.proofs.Verdicts.{room-passed}
 use Rattle.tension_host.specs.Bytes.{short, firstSamples, firstEntries, samplesIn, entriesIn, bytesOf}
 use Rattle.tension_host.specs.Results.{coded, codedRefusal, countsList}
 use Rattle.tension_host.specs.HostPromises.{HostSearch, searchCase}

@@ -8,7 +8,7 @@ use Rattle.order.specs.Sizes.{patternLimit, traceLimit, windowsOf}
 use Rattle.order.specs.Written.{over}
 use Rattle.search.specs.declared.answers.Searched.{Searched}
 use Rattle.search.specs.declared.answers.Searched.the-variants.{Done, Refused}
-use Rattle.search.specs.Asked.{Room}
+use Rattle.tables.specs.Asked.{Room}
 use Rattle.tension_host.specs.Bytes.{firstEntries, bytesOf}
 use Rattle.tension_host.specs.Results.{codedRefusal, countsList}
 use Rattle.tension_host.specs.Inside.{TablesWork, TableRoom}

@@ -1,19 +1,19 @@
 // Preparation for a C host.
 //
 // Follows docs/RULES.md, "The C entry points", "What is written" and "Refusals", numbers 1 to 3. The lengths are checked before
-// anything is converted, so a refused call has written no byte. An accepted one takes what `search::prepare` does, and 12 KB of
+// anything is converted, so a refused call has written no byte. An accepted one takes what `tables::prepare` does, and 12 KB of
 // stack for the samples and the tables.
 
 use crate::buffers::put_entries;
 use crate::buffers::take_samples;
 use crate::results::ACCEPTED;
 use crate::results::coded;
-use search::Fitting;
+use tables::Fitting;
 ghost use Prim.Native.Nat.{_/_};
 ghost use lib.ListN.{length};
 ghost use Rattle.order.specs.Neighbours.{lowTable, highTable};
 ghost use Rattle.order.specs.Witnesses.{witnessITable, witnessJTable};
-ghost use Rattle.search.specs.Asked.{Room};
+ghost use Rattle.tables.specs.Asked.{Room};
 ghost use Rattle.tension_host.specs.Bytes.{samplesIn};
 ghost use Rattle.tension_host.specs.HostPromises.{HostPrepare};
 ghost use Rattle.tension_host.specs.Inside.{PrepareArrays, Preparable, TablesOf, Prepares, TableRoom, TablesPut};
@@ -31,7 +31,7 @@ fn make_tables(
     ensures { λ r. ⌜ TablesOf (samplesIn (now (pattern .entry))) (now (lows .exit)) (now (highs .exit)) (now (is .exit)) (now (js .exit)) ⌝ }
 {
     take_samples(pattern, samples);
-    search::prepare(samples, lows, highs, is, js);
+    tables::prepare(samples, lows, highs, is, js);
 }
 
 // Tables as bytes, over the front of the host's.
@@ -147,7 +147,7 @@ pub extern "C" fn tension_prepare(
 ) -> u64
     ensures { λ r. ⌜ HostPrepare (now (pattern .entry)) (now (low .entry)) (now (high .entry)) (now («witness_i» .entry)) (now («witness_j» .entry)) r (now (low .exit)) (now (high .exit)) (now («witness_i» .exit)) (now («witness_j» .exit)) ⌝ }
 {
-    match search::lengths(
+    match tables::lengths(
         pattern.len() / 4,
         low.len() / 2,
         high.len() / 2,

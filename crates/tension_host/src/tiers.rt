@@ -9,7 +9,7 @@ use crate::answering::put_answer;
 use crate::buffers::take_samples;
 use crate::results::coded;
 use crate::searching::search_samples;
-use search::Fitting;
+use tables::Fitting;
 ghost use Prim.Native.Nat.{_/_, _≤_};
 ghost use lib.ListN.{length};
 ghost use Rattle.tension_host.specs.HostPromises.{HostSearch};
@@ -180,7 +180,7 @@ pub extern "C" fn tension_search_large(
     ensures { λ r. ⌜ HostSearch (now (pattern .entry)) (now (low .entry)) (now (high .entry)) (now («witness_i» .entry)) (now («witness_j» .entry)) (now (trace .entry)) (now (survivors .entry)) (now (positions .entry)) (now (counts .entry)) r (now (survivors .exit)) (now (positions .exit)) (now (counts .exit)) ⌝ }
 {
     let n = trace.len() / 4;
-    match search::lengths(
+    match tables::lengths(
         pattern.len() / 4,
         low.len() / 2,
         high.len() / 2,
@@ -235,7 +235,7 @@ pub extern "C" fn tension_search(
             counts,
         );
     }
-    match search::lengths(
+    match tables::lengths(
         pattern.len() / 4,
         low.len() / 2,
         high.len() / 2,

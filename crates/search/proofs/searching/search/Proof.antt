@@ -3,56 +3,43 @@
 use mathlib.Core.Path.{_≡_, sym, _∙_}
 use denote.Ref.{now}
 use lib.ListN.{length}
-use Rattle.search.proofs.Verdicts.{fine-accepted}
 use Rattle.search.proofs.SearchLaws.{search-ready, search-refused, search-done}
 use borrow.Author.Needs.{needs}
 use Rattle.search.proofs.searching.search.Statement.{statement}
 use Rattle.search.proofs.searching.search.Tie as tie
-use Rattle.search.proofs.searching.search.Reads as reads
-use Rattle.search.proofs.searching.search.Lts as lts
-use Rattle.search.proofs.searching.check_search.Reads as check-search-reads
-use Rattle.search.proofs.searching.run.Reads as run-reads
 
--- src/searching.rt:108:11
 check-search-requires : tie.Need-check-search-requires
 check-search-requires c κs = search needs
 
--- src/searching.rt:109:26
 enum-known-why : tie.Need-enum-known-why
 enum-known-why c = search needs
 
--- src/searching.rt:110:94
-enum-told : tie.Need-enum-told
-enum-told c = search needs
+enum-known-windows : tie.Need-enum-known-windows
+enum-known-windows c = search needs
 
--- src/searching.rt:110:41
 run-requires : tie.Need-run-requires
 run-requires c κs =
-    let a = c .before .before .before .before .before .before .before .before .before .before .before .args in
+    let a = c .before .before .before .before .before .before .before .before .before .before .before .before .args in
     search-ready (now (a .pattern)) (now (a .low)) (now (a .high)) (now (a .witness-i)) (now (a .witness-j)) (now (a .trace)) (length (now (a .survivors))) (length (now (a .positions)))
-    (fine-accepted _ (sym (c .before .before .enum-told .given .1) ∙ c .before .before .before .before .check-search .ensures))
+    (sym (c .before .before .before .windows .given .1) ∙ c .before .before .before .before .before .check-search .ensures)
 
--- src/searching.rt:105:1
 returns : tie.Need-returns
 returns c =
     let a = c .before .before .before .before .before .before .before .before .before .before .args in
     search-refused (now (a .pattern)) (now (a .low)) (now (a .high)) (now (a .witness-i)) (now (a .witness-j)) (now (a .trace)) (now (a .survivors)) (now (a .positions))
-    (c .before .why .given .0 .0) (sym (c .before .why .given .1) ∙ c .before .before .before .check-search .ensures)
+    (sym (c .before .why .given .1) ∙ c .before .before .before .check-search .ensures)
 
--- src/searching.rt:105:1
 same-length : tie.Need-same-length
 same-length c = search needs
 
--- src/searching.rt:105:1
 same-length-2 : tie.Need-same-length-2
 same-length-2 c = search needs
 
--- src/searching.rt:105:1
 returns-2 : tie.Need-returns-2
 returns-2 c =
-    let a = c .before .before .before .before .before .before .before .before .before .before .before .before .before .before .before .before .args in
+    let a = c .before .before .before .before .before .before .before .before .before .before .before .before .before .before .before .before .before .args in
     search-done (now (a .pattern)) (now (a .low)) (now (a .high)) (now (a .witness-i)) (now (a .witness-j)) (now (a .trace)) (now (a .survivors)) (now (a .positions))
-    (sym (c .before .before .before .before .before .before .before .enum-told .given .1) ∙ c .before .before .before .before .before .before .before .before .before .check-search .ensures) (c .before .before .before .before .run .ensures)
+    (sym (c .before .before .before .before .before .before .before .before .windows .given .1) ∙ c .before .before .before .before .before .before .before .before .before .before .check-search .ensures) (c .before .before .before .before .run .ensures)
 
 pub search-spec : {M : Type 1} → statement M
 search-spec =
@@ -60,7 +47,7 @@ search-spec =
     (tie.spec
     check-search-requires
     enum-known-why
-    enum-told
+    enum-known-windows
     run-requires
     returns
     same-length

@@ -1,7 +1,7 @@
 -- `agree` meets its contract: the sizes' verdict, and then the table's at the offset of the two starts.
 -- Assumes nothing.
-use Rattle.search.proofs.Verdicts.{fine-accepted, agree-room}
-use Rattle.search.proofs.Promised.{agree-refused, agree-compared}
+use Rattle.tables.proofs.Verdicts.{fine-accepted, agree-room}
+use Rattle.search.proofs.Agreed.{agree-refused, agree-compared}
 use denote.Ref.{now}
 use lib.ListN.{length}
 use Rattle.order.specs.Refusals.{agreeVerdict}

@@ -1,0 +1,11 @@
+-- The laws that the functions' proofs cite, in the order of the argument.
+pub mod Verdicts
+pub mod VerdictRows
+pub mod LengthLaws
+pub mod NearestSoFar
+pub mod Offsets
+pub mod OwnTables
+pub mod Stretches
+pub mod Turns
+pub mod ForeignEntries
+pub mod Promised

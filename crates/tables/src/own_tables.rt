@@ -1,0 +1,108 @@
+// Whether the tables handed to a search are the pattern's own: what preparation would write is written again, and the two are
+// compared entry by entry.
+//
+// Follows docs/RULES.md, "Refusals", numbers 1 to 3 and 7. It costs a preparation and 4 m comparisons of entries, and 8 KB of stack.
+
+use crate::answers::Checked;
+use crate::checks::check_prepare;
+use crate::preparation::write_tables;
+use order::PATTERN_LIMIT;
+use order::Refusal;
+ghost use mathlib.Core.Path.{_≡_};
+ghost use Prim.Native.Nat.{_≤_, min};
+ghost use lib.ListN.{length};
+ghost use Rattle.order.specs.Sizes.{patternLimit, lowest};
+ghost use Rattle.order.specs.Refusals.{ownVerdict, foreignAt};
+ghost use Rattle.tables.specs.Answers.{checkedBy};
+ghost use Rattle.tables.specs.Asked.{Room, FirstDifference, FirstForeign};
+ghost use Rattle.tables.specs.Promises.{TablesPromise};
+
+fn smaller(a: usize, b: usize) -> usize
+    ensures { λ r. ⌜ r ≡ min a b ⌝ }
+{
+    if a < b { a } else { b }
+}
+
+// The lowest entry below m at which two tables differ, or m.
+fn first_difference(table: &[u16], own: &[u16], m: usize) -> usize
+    requires { ⌜ (m ≤ length (now table)) × (m ≤ length (now own)) ⌝ }
+    ensures { λ r. ⌜ FirstDifference (now (table .entry)) (now (own .entry)) m r ⌝ }
+{
+    let mut k: usize = 0;
+    while k < m {
+        if table[k] != own[k] {
+            return k;
+        }
+        k += 1;
+    }
+    k
+}
+
+// The lowest entry below m at which any of the four tables is not the pattern's own, or m.
+fn first_foreign(
+    pattern: &[i32],
+    low: &[u16],
+    high: &[u16],
+    witness_i: &[u16],
+    witness_j: &[u16],
+) -> usize
+    requires { ⌜ Room (length (now pattern)) (length (now low)) (length (now high)) (length (now «witness_i»)) (length (now «witness_j»)) ⌝ }
+    ensures { λ r. ⌜ FirstForeign (now (pattern .entry)) (now (low .entry)) (now (high .entry)) (now («witness_i» .entry)) (now («witness_j» .entry)) r ⌝ }
+{
+    let m = pattern.len();
+    let mut own_low = [0u16; PATTERN_LIMIT];
+    let mut own_high = [0u16; PATTERN_LIMIT];
+    let mut own_i = [0u16; PATTERN_LIMIT];
+    let mut own_j = [0u16; PATTERN_LIMIT];
+    write_tables(pattern, &mut own_low, &mut own_high, &mut own_i, &mut own_j);
+    let neighbours = smaller(
+        first_difference(low, &own_low, m),
+        first_difference(high, &own_high, m),
+    );
+    let witnesses = smaller(
+        first_difference(witness_i, &own_i, m),
+        first_difference(witness_j, &own_j, m),
+    );
+    smaller(neighbours, witnesses)
+}
+
+// 7: the tables are the pattern's own.
+fn check_own(
+    pattern: &[i32],
+    low: &[u16],
+    high: &[u16],
+    witness_i: &[u16],
+    witness_j: &[u16],
+) -> Checked
+    requires { ⌜ Room (length (now pattern)) (length (now low)) (length (now high)) (length (now «witness_i»)) (length (now «witness_j»)) ⌝ }
+    ensures { λ r. ⌜ r ≡ checkedBy (ownVerdict (lowest (foreignAt (now (pattern .entry)) (now (low .entry)) (now (high .entry)) (now («witness_i» .entry)) (now («witness_j» .entry))) (length (now (pattern .entry))))) ⌝ }
+{
+    let at = first_foreign(pattern, low, high, witness_i, witness_j);
+    if at < pattern.len() {
+        return Checked::Refused(Refusal::ForeignEntry(at));
+    }
+    Checked::Fine
+}
+
+// Whether a pattern and tables would do for a search: 1 to 3 on their lengths, and then 7.
+pub fn check_tables(
+    pattern: &[i32],
+    low: &[u16],
+    high: &[u16],
+    witness_i: &[u16],
+    witness_j: &[u16],
+) -> Checked
+    ensures { λ r. ⌜ TablesPromise (now (pattern .entry)) (now (low .entry)) (now (high .entry)) (now («witness_i» .entry)) (now («witness_j» .entry)) r ⌝ }
+{
+    let sizes = check_prepare(
+        pattern.len(),
+        low.len(),
+        high.len(),
+        witness_i.len(),
+        witness_j.len(),
+    );
+    let Checked::Fine = sizes else {
+        return sizes;
+    };
+    check_own(pattern, low, high, witness_i, witness_j)
+}
