@@ -1,4 +1,4 @@
--- Shows: order isomorphism is an equivalence that parts inherit; it is the printed u_i ≤ u_j ⇔ v_i ≤ v_j; and `isIso`
+-- Shows: order isomorphism is an equivalence that parts inherit; it is Chhabra's u_i ≤ u_j ⇔ v_i ≤ v_j (2016); and `isIso`
 -- computes it.
 -- Assumes nothing.
 use Prim.Native.Nat.{ℕ, zero, suc, _+_, _-_, _≤_, _<_, min}
