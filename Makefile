@@ -24,11 +24,8 @@ host:
 	@rt staticlib tension_host
 
 # our speed beside the same algorithm in C, the KMP matcher and the naive one, as ratios in one run
-compare: host
-	@mkdir -p target
-	@gcc -std=c11 -O3 -Wall -Wextra -Ihost host/compare/compare.c host/compare/matchers.c target/staticlib/libtension_host.a -lm -o target/compare
-	@target/compare --svg target/compare.svg
-	@echo "drawn in target/compare.svg"
+compare:
+	@bash host/compare/run.sh
 
 install: host
 	install -d "$(DESTDIR)$(PREFIX)/include" "$(DESTDIR)$(PREFIX)/lib/pkgconfig"

@@ -2,17 +2,31 @@
  * replay.c - the host's tests: reads a stream of cases from standard input (reference/README.md has the format), makes each call
  * of the C entry points, and writes the answers and buffers to standard output in the reference's words, to be compared.
  *
- * Beside that it looks at every byte itself: guards stand around each buffer, each buffer has some bytes left over at its end,
- * what is only read must stay, and the counts buffer is tried at every length. A fault ends the run with status 1.
+ *     replay [--front]
+ *
+ * Beside that it looks at every byte itself: each buffer ends right at memory that can't be touched, or begins right after it with
+ * --front, and guard bytes stand at its other end; each buffer has some bytes left over at its end, what is only read must stay,
+ * and the counts buffer is tried at every length. A fault ends the run with status 1.
  */
+#define _DEFAULT_SOURCE /* MAP_ANONYMOUS */
+#include <signal.h>
 #include <stdio.h>
 #include <stdlib.h>
 #include <string.h>
+#include <sys/mman.h>
 
 #include "tension.h"
 
-enum { TABLE = 1100, TRACE = 65600, GUARD = 16, FILL = 0xAA };
+enum { TABLE = 1100, GUARD = 16, FILL = 0xAA };
 
+/*
+ * The buffers of one case lie in rooms, one in each, with an edge on either side that can't be touched. A room takes 65,600 samples,
+ * the longest trace of a case. Both sizes are multiples of 64 KB: protection goes by the machine's pages, and some have such large ones.
+ */
+enum { ROOMS = 14, EDGE = 1 << 16, ROOM = 5 << 16 };
+
+static uint8_t *rooms, before[ROOMS][ROOM];
+static int taken, front;
 static unsigned long cases;
 
 static void fail(const char *what)
@@ -21,9 +35,33 @@ static void fail(const char *what)
     exit(1);
 }
 
-/* A buffer with guards around it, a copy of what it held, and a number of bytes left over at its end. */
+/* A touched edge: tells the case. The attribute is for emulators that hand over a stack which is not aligned. */
+__attribute__((force_align_arg_pointer)) static void touched(int number)
+{
+    (void)number;
+    fail("a byte outside a buffer was read or written");
+}
+
+static uint8_t *room(int k)
+{
+    return rooms + EDGE + (size_t)k * (ROOM + EDGE);
+}
+
+static void build(void)
+{
+    int k;
+    rooms = mmap(NULL, EDGE + ROOMS * (size_t)(ROOM + EDGE), PROT_NONE, MAP_PRIVATE | MAP_ANONYMOUS, -1, 0);
+    if (rooms == MAP_FAILED)
+        fail("no memory");
+    for (k = 0; k < ROOMS; k++)
+        if (mprotect(room(k), ROOM, PROT_READ | PROT_WRITE) != 0)
+            fail("no memory");
+    signal(SIGSEGV, touched);
+}
+
+/* A buffer at one end of a room, with guard bytes on its other side, a copy of what it held, and bytes left over at its end. */
 struct buffer {
-    uint8_t *whole, *bytes, *before;
+    uint8_t *bytes, *guard, *before;
     size_t length, entries, width;
 };
 
@@ -32,12 +70,13 @@ static void make(struct buffer *b, size_t entries, size_t width, size_t over)
     b->entries = entries;
     b->width = width;
     b->length = entries * width + over % width;
-    b->whole = malloc(b->length + 2 * GUARD);
-    b->before = malloc(b->length + 1);
-    if (!b->whole || !b->before)
-        fail("no memory");
-    memset(b->whole, FILL, b->length + 2 * GUARD);
-    b->bytes = b->whole + GUARD;
+    if (taken == ROOMS || b->length + GUARD > ROOM)
+        fail("no room for a buffer");
+    b->bytes = front ? room(taken) : room(taken) + ROOM - b->length;
+    b->guard = front ? b->bytes + b->length : b->bytes - GUARD;
+    b->before = before[taken++];
+    memset(b->bytes, FILL, b->length);
+    memset(b->guard, FILL, GUARD);
 }
 
 static void remember(struct buffer *b)
@@ -50,18 +89,12 @@ static void look(const struct buffer *b, size_t written)
 {
     size_t k, from = written * b->width;
     for (k = 0; k < GUARD; k++)
-        if (b->whole[k] != FILL || b->bytes[b->length + k] != FILL)
+        if (b->guard[k] != FILL)
             fail("a byte outside a buffer was written");
     if (from > b->length)
         from = b->length;
     if (memcmp(b->bytes + from, b->before + from, b->length - from) != 0)
         fail("a byte that should have stayed was written");
-}
-
-static void drop(struct buffer *b)
-{
-    free(b->whole);
-    free(b->before);
 }
 
 static uint32_t get(const struct buffer *b, size_t entry)
@@ -145,9 +178,7 @@ static void prepare_case(void)
     for (k = 0; k < 4; k++) {
         look(&t[k], answer ? 0 : pattern.entries);
         show(names[k], &t[k]);
-        drop(&t[k]);
     }
-    drop(&pattern);
 }
 
 /* One call of the search, with a counts buffer of some length. */
@@ -183,7 +214,6 @@ static void search_case(void)
     for (n = 0; n < 4; n++) {
         memcpy(t[n].bytes, full[n].bytes, 2 * t[n].entries);
         remember(&t[n]);
-        drop(&full[n]);
     }
     samples(&trace, cases / 5);
     make(&survivors, number(4), 4, cases / 2);
@@ -218,22 +248,20 @@ static void search_case(void)
     for (k = 0; !answer && k < few.entries && k < TENSION_COUNTS; k++)
         if (get(&few, k) != get(&counts, k))
             fail("a count depends on the buffer's length");
-
-    for (n = 0; n < 4; n++)
-        drop(&t[n]);
-    drop(&pattern);
-    drop(&trace);
-    drop(&survivors);
-    drop(&positions);
-    drop(&counts);
-    drop(&few);
 }
 
-int main(void)
+int main(int argc, char **argv)
 {
     uint32_t kind;
+    front = argc == 2 && strcmp(argv[1], "--front") == 0;
+    if (argc > 1 && !front) {
+        fprintf(stderr, "usage: %s [--front] < CASES\n", argv[0]);
+        return 2;
+    }
+    build();
     while ((kind = number(1)) != 0) {
         cases++;
+        taken = 0; /* the rooms of the case before are free again */
         if (kind == 1)
             prepare_case();
         else if (kind == 2)
@@ -243,6 +271,6 @@ int main(void)
     }
     if (cases == 0)
         fail("no case");
-    fprintf(stderr, "%lu calls replayed\n", cases);
+    fprintf(stderr, "%lu calls replayed, each buffer %s\n", cases, front ? "right after an edge" : "right before an edge");
     return 0;
 }

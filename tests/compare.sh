@@ -4,8 +4,7 @@ set -euo pipefail
 cd "$(dirname "$0")/.."
 work=$(mktemp -d)
 trap 'rm -rf "$work"' EXIT
-. tests/archive.inc
-gcc -std=c11 -O3 -Wall -Wextra -Ihost host/compare/compare.c host/compare/matchers.c "$archive" -lm -o "$work/compare"
-"$work/compare" --short >"$work/said"
+. host/compare/build.inc
+"${run[@]}" "$work/compare" --short >"$work/said"
 grep -q '^6 rows' "$work/said"
 echo "compare: the same answers from four matchers"
