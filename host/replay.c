@@ -20,8 +20,9 @@
 enum { TABLE = 1100, GUARD = 16, FILL = 0xAA };
 
 /*
- * The buffers of one case lie in rooms, one in each, with an edge on either side that can't be touched. A room takes 65,600 samples,
- * the longest trace of a case. Both sizes are multiples of 64 KB: protection goes by the machine's pages, and some have such large ones.
+ * The buffers of one case lie in rooms, one in each, with an edge on either side that can't be touched. A room takes 65,600
+ * samples, the longest trace of a case. Both sizes are multiples of 64 KB, since memory is protected by pages and some machines
+ * have such large ones.
  */
 enum { ROOMS = 14, EDGE = 1 << 16, ROOM = 5 << 16 };
 

@@ -1,10 +1,12 @@
 #!/usr/bin/env bash
-# Builds the comparison of host/compare and runs one short row of each trace: the answers of all matchers are checked, times are not.
+# Builds the comparison of host/compare and runs one short row of each trace: the answers of all matchers are checked and the picture
+# is drawn; times are not looked at.
 set -euo pipefail
 cd "$(dirname "$0")/.."
 work=$(mktemp -d)
 trap 'rm -rf "$work"' EXIT
 . host/compare/build.inc
-"${run[@]}" "$work/compare" --short >"$work/said"
+"${run[@]}" "$work/compare" --short --svg "$work/drawn.svg" >"$work/said"
 grep -q '^6 rows' "$work/said"
+python3 -c 'import sys, xml.dom.minidom; xml.dom.minidom.parse(sys.argv[1])' "$work/drawn.svg"
 echo "compare: the same answers from four matchers"

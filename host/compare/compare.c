@@ -3,8 +3,8 @@
  * checked. Prints a table of ratios (ours / theirs; below 1 we are ahead), the worst and the geometric mean of each column, the
  * preparation, and the share of the tables' check. With --svg FILE it draws the ratios too.
  *
- *     compare [--svg FILE] [--short]           all rows, or one short row of each trace
- *     compare --count WHO KIND M N CALLS       only makes CALLS calls of WHO (ours, same, kmp, naive): for counting instructions
+ *     compare [--svg FILE] [--short] [--emulated]   all rows, or one short row of each trace; --emulated says that times are no use
+ *     compare --count WHO KIND M N CALLS            only makes CALLS calls of WHO (ours, same, kmp, naive): to count instructions
  *
  * Each time is the best of 9 samples; a sample is as many calls as take a millisecond.
  */
@@ -18,10 +18,10 @@
 #include "../tension.h"
 #include "matchers.h"
 
-enum { KINDS = 6, SAMPLES = 9, COLUMNS = 3, TRACE = 65536 };
+enum { KINDS = 6, MS = 5, NS = 3, SAMPLES = 9, COLUMNS = 3, TRACE = 65536 };
 
 static const char *kinds[KINDS] = {"random", "equal", "monotone", "sawtooth", "walk", "steps"};
-static const size_t ms[] = {4, 8, 32, 128, 1024}, ns[] = {64, 2048, 65536};
+static const size_t ms[MS] = {4, 8, 32, 128, 1024}, ns[NS] = {64, 2048, 65536};
 static const char *columns[COLUMNS] = {"same C", "KMP", "naive"};
 
 static int32_t trace[TRACE], pattern[LONGEST];
@@ -172,36 +172,182 @@ static void count(char **argv)
         call();
 }
 
-/* The ratios as dots, a column of dots a row of the table, on a scale of powers of two. */
-static void draw(const char *file, double (*rows)[COLUMNS], int number)
+/* A row of the table: the time of ours, the share of it that the tables' check takes, and ours by each of theirs. */
+struct row {
+    const char *kind;
+    size_t m, n;
+    double ours, check, ratios[COLUMNS];
+};
+
+static struct row rows[KINDS * MS * NS];
+static int number;
+static const char *note = "";
+
+static void measure(const char *kind, size_t length, size_t samples)
 {
-    static const char *colours[COLUMNS] = {"#1b6ca8", "#c0562a", "#5a8f3d"};
+    static void (*const theirs[COLUMNS])(void) = {call_same, call_kmp, call_naive};
+    struct row *r = &rows[number++];
+    set_up(kind, length, samples);
+    r->kind = kind;
+    r->m = m;
+    r->n = n;
+    r->ours = timed(call_ours);
+    r->check = timed(call_check) / r->ours;
+    printf("%-9s %5zu %6zu %11.2f", kind, m, n, 1e6 * r->ours);
+    for (int c = 0; c < COLUMNS; c++) {
+        r->ratios[c] = r->ours / timed(theirs[c]);
+        printf(" %10.3f", r->ratios[c]);
+    }
+    printf("  %3.0f %%\n", 100 * r->check);
+    fflush(stdout);
+}
+
+static double worst(int c)
+{
+    double ratio = 0;
+    for (int r = 0; r < number; r++)
+        ratio = fmax(ratio, rows[r].ratios[c]);
+    return ratio;
+}
+
+static double geometric_mean(int c)
+{
+    double logs = 0;
+    for (int r = 0; r < number; r++)
+        logs += log(rows[r].ratios[c]);
+    return exp(logs / number);
+}
+
+static void sum_up(void)
+{
+    printf("%-34s %10.3f %10.3f %10.3f\n", "worst", worst(0), worst(1), worst(2));
+    printf("%-34s %10.3f %10.3f %10.3f\n", "geometric mean", geometric_mean(0), geometric_mean(1), geometric_mean(2));
+    printf("%d rows, best of %d samples each\n", number, SAMPLES);
+}
+
+static void preparation(void)
+{
+    printf("\npreparation (random)  ours (us)   same C\n");
+    for (int k = 0; k < MS; k++) {
+        set_up("random", ms[k], 2048);
+        double ours = timed(call_prepare), theirs = timed(call_same_prepare);
+        printf("m = %-5zu %21.2f %8.3f\n", m, 1e6 * ours, ours / theirs);
+    }
+}
+
+/*
+ * The picture is the table with a dot for each ratio, on a scale of powers of two that reaches from the least ratio to the largest.
+ * Distances are in pixels: LINE from row to row, columns of figures at FIGURES and every COLUMN after, the scale from LEFT on.
+ */
+enum { LINE = 14, TOP = 70, FIGURES = 220, COLUMN = 70, LEFT = 400, WIDE = 560 };
+
+static const char *colours[COLUMNS] = {"#1b6ca8", "#c0562a", "#5a8f3d"};
+static int least, largest; /* powers of two, both multiples of 4 */
+
+static void find_scale(void)
+{
+    least = largest = 0;
+    for (int r = 0; r < number; r++)
+        for (int c = 0; c < COLUMNS; c++) {
+            while (log2(rows[r].ratios[c]) < least)
+                least -= 4;
+            while (log2(rows[r].ratios[c]) > largest)
+                largest += 4;
+        }
+    if (least == largest)
+        largest += 4;
+}
+
+static double across(double power)
+{
+    return LEFT + WIDE * (power - least) / (largest - least);
+}
+
+static void draw_scale(FILE *f, int bottom)
+{
+    for (int p = least; p <= largest; p += 4) {
+        fprintf(f, "<line x1=\"%.1f\" x2=\"%.1f\" y1=\"%d\" y2=\"%d\" stroke=\"%s\"/>\n", across(p), across(p), TOP - LINE, bottom,
+                p ? "#ddd" : "#444");
+        fprintf(f, "<text x=\"%.1f\" y=\"%d\" text-anchor=\"middle\">%s%ld</text>\n", across(p), TOP - LINE - 4, p < 0 ? "1/" : "",
+                1L << abs(p));
+    }
+}
+
+/* A figure or a word that ends at x. */
+static void draw_text(FILE *f, int x, int y, const char *colour, const char *text)
+{
+    fprintf(f, "<text x=\"%d\" y=\"%d\" fill=\"%s\" text-anchor=\"end\">%s</text>\n", x, y, colour, text);
+}
+
+static void draw_ratio(FILE *f, int c, int y, double ratio)
+{
+    char text[32];
+    snprintf(text, sizeof text, "%.*f", ratio < 10 ? 3 : ratio < 1000 ? 1 : 0, ratio);
+    draw_text(f, FIGURES + COLUMN * c, y + 4, colours[c], text);
+    fprintf(f, "<circle cx=\"%.1f\" cy=\"%d\" r=\"3.5\" fill=\"%s\"/>\n", across(log2(ratio)), y, colours[c]);
+}
+
+static void draw_head(FILE *f, int height)
+{
+    fprintf(f, "<svg xmlns=\"http://www.w3.org/2000/svg\" width=\"%d\" height=\"%d\" font-family=\"sans-serif\" font-size=\"11\">\n",
+            LEFT + WIDE + 40, height);
+    fprintf(f, "<rect width=\"100%%\" height=\"100%%\" fill=\"white\"/>\n");
+    fprintf(f, "<text x=\"10\" y=\"20\" font-size=\"13\">Time of tension_search by the time of three matchers in C; left of 1 "
+               "we are ahead</text>\n<text x=\"10\" y=\"36\" fill=\"#b00\">%s</text>\n", note);
+    fprintf(f, "<text x=\"10\" y=\"%d\">trace</text>\n", TOP - LINE - 4);
+    draw_text(f, 110, TOP - LINE - 4, "black", "m");
+    draw_text(f, 155, TOP - LINE - 4, "black", "n");
+    for (int c = 0; c < COLUMNS; c++)
+        draw_text(f, FIGURES + COLUMN * c, TOP - LINE - 4, colours[c], columns[c]);
+}
+
+/* A band behind every second kind of trace. */
+static void draw_bands(FILE *f)
+{
+    for (int r = 0, odd = 0; r < number; r++) {
+        odd ^= r > 0 && rows[r].kind != rows[r - 1].kind;
+        if (odd)
+            fprintf(f, "<rect x=\"0\" y=\"%d\" width=\"100%%\" height=\"%d\" fill=\"#f4f4f0\"/>\n", TOP + LINE * r - LINE / 2, LINE);
+    }
+}
+
+static void draw_row(FILE *f, const struct row *r, int y)
+{
+    char text[32];
+    fprintf(f, "<text x=\"10\" y=\"%d\">%s</text>\n", y + 4, r->kind);
+    snprintf(text, sizeof text, "%zu", r->m);
+    draw_text(f, 110, y + 4, "black", text);
+    snprintf(text, sizeof text, "%zu", r->n);
+    draw_text(f, 155, y + 4, "black", text);
+    for (int c = 0; c < COLUMNS; c++)
+        draw_ratio(f, c, y, r->ratios[c]);
+}
+
+static void draw(const char *file)
+{
     FILE *f = fopen(file, "w");
+    int bottom = TOP + LINE * (number + 2);
     if (!f) {
         perror(file);
         exit(1);
     }
-    fprintf(f, "<svg xmlns=\"http://www.w3.org/2000/svg\" width=\"%d\" height=\"360\" font-family=\"sans-serif\" font-size=\"11\">\n",
-            90 + 9 * number);
-    fprintf(f, "<rect width=\"100%%\" height=\"100%%\" fill=\"white\"/>\n");
-    for (int p = -10; p <= 4; p += 2)
-        fprintf(f, "<line x1=\"50\" x2=\"%d\" y1=\"%d\" y2=\"%d\" stroke=\"%s\"/><text x=\"6\" y=\"%d\">%s%d</text>\n",
-                60 + 9 * number, 110 - 20 * p, 110 - 20 * p, p ? "#ddd" : "#444", 114 - 20 * p, p < 0 ? "1/" : "", 1 << abs(p));
+    find_scale();
+    draw_head(f, bottom + 10);
+    draw_bands(f);
+    draw_scale(f, bottom);
     for (int r = 0; r < number; r++)
-        for (int c = 0; c < COLUMNS; c++)
-            fprintf(f, "<circle cx=\"%d\" cy=\"%.1f\" r=\"3\" fill=\"%s\"/>\n", 60 + 9 * r, 110 - 20 * log2(rows[r][c]), colours[c]);
+        draw_row(f, &rows[r], TOP + LINE * r);
+    fprintf(f, "<text x=\"10\" y=\"%d\">geometric mean</text>\n", bottom - LINE + 4);
     for (int c = 0; c < COLUMNS; c++)
-        fprintf(f, "<text x=\"%d\" y=\"350\" fill=\"%s\">time of ours / %s</text>\n", 60 + 150 * c, colours[c], columns[c]);
+        draw_ratio(f, c, bottom - LINE, geometric_mean(c));
     fprintf(f, "</svg>\n");
     fclose(f);
 }
 
 int main(int argc, char **argv)
 {
-    static double rows[KINDS * 5 * 3][COLUMNS];
     const char *svg = NULL;
-    int shorter = 0, number = 0;
-    double worst[COLUMNS] = {0}, logs[COLUMNS] = {0};
+    int shorter = 0;
 
     if (argc == 7 && !strcmp(argv[1], "--count")) {
         count(argv);
@@ -210,48 +356,26 @@ int main(int argc, char **argv)
     for (int k = 1; k < argc; k++) {
         if (!strcmp(argv[k], "--short"))
             shorter = 1;
+        else if (!strcmp(argv[k], "--emulated"))
+            note = "Run under an emulator: the answers are checked, but times and ratios say nothing.";
         else if (!strcmp(argv[k], "--svg") && k + 1 < argc)
             svg = argv[++k];
         else {
-            fprintf(stderr, "usage: %s [--svg FILE] [--short] | --count WHO KIND M N CALLS\n", argv[0]);
+            fprintf(stderr, "usage: %s [--svg FILE] [--short] [--emulated] | --count WHO KIND M N CALLS\n", argv[0]);
             return 2;
         }
     }
-    printf("%-9s %5s %6s %11s %9s %9s %9s  check\n", "trace", "m", "n", "ours (us)", columns[0], columns[1], columns[2]);
+    if (*note)
+        printf("%s\n", note);
+    printf("%-9s %5s %6s %11s %10s %10s %10s  check\n", "trace", "m", "n", "ours (us)", columns[0], columns[1], columns[2]);
     for (int k = 0; k < KINDS; k++)
-        for (size_t mi = 0; mi < 5; mi++)
-            for (size_t ni = 0; ni < 3; ni++) {
-                if (shorter && (mi != 2 || ni != 1))
-                    continue;
-                set_up(kinds[k], ms[mi], ns[ni]);
-                double ours = timed(call_ours), check = timed(call_check);
-                double theirs[COLUMNS] = {timed(call_same), timed(call_kmp), timed(call_naive)};
-                printf("%-9s %5zu %6zu %11.2f", kinds[k], m, n, 1e6 * ours);
-                for (int c = 0; c < COLUMNS; c++) {
-                    double ratio = ours / theirs[c];
-                    rows[number][c] = ratio;
-                    logs[c] += log(ratio);
-                    if (ratio > worst[c])
-                        worst[c] = ratio;
-                    printf(" %9.3f", ratio);
-                }
-                printf("  %3.0f %%\n", 100 * check / ours);
-                fflush(stdout);
-                number++;
-            }
-    printf("worst%29s", "");
-    for (int c = 0; c < COLUMNS; c++)
-        printf(" %9.3f", worst[c]);
-    printf("\ngeometric mean%20s", "");
-    for (int c = 0; c < COLUMNS; c++)
-        printf(" %9.3f", exp(logs[c] / number));
-    printf("\n%d rows, best of %d samples each\n\npreparation (random)  ours (us)   same C\n", number, SAMPLES);
-    for (size_t mi = 0; mi < 5; mi++) {
-        set_up("random", ms[mi], 2048);
-        double ours = timed(call_prepare), theirs = timed(call_same_prepare);
-        printf("m = %-5zu %21.2f %8.3f\n", m, 1e6 * ours, ours / theirs);
-    }
+        for (int mi = 0; mi < MS; mi++)
+            for (int ni = 0; ni < NS; ni++)
+                if (!shorter || (ms[mi] == 32 && ns[ni] == 2048))
+                    measure(kinds[k], ms[mi], ns[ni]);
+    sum_up();
+    preparation();
     if (svg)
-        draw(svg, rows, number);
+        draw(svg);
     return 0;
 }
