@@ -2,7 +2,7 @@
 PREFIX ?= /usr/local
 DESTDIR ?=
 
-.PHONY: run test cases host install compare
+.PHONY: run test cases host install compare count
 
 # proves and builds the program, and searches the recording in examples/
 run:
@@ -26,6 +26,10 @@ host:
 # our speed beside the same algorithm in C, the KMP matcher and the naive one, as ratios in one run
 compare:
 	@bash host/compare/run.sh
+
+# instructions of one call beside those of the same algorithm in C
+count:
+	@bash host/compare/count.sh
 
 install: host
 	install -d "$(DESTDIR)$(PREFIX)/include" "$(DESTDIR)$(PREFIX)/lib/pkgconfig"
