@@ -9,8 +9,8 @@ run:
 	@echo "Proving and building bench (the first time takes some minutes) .."
 	@mkdir -p target
 	@rt check bench > target/run.log 2>&1 || { tail -n 20 target/run.log; exit 1; }
-	@echo "target/bin/bench < examples/ribbing.krec"
-	@target/bin/bench < examples/ribbing.krec
+	@echo "examples/start target/bin/bench < examples/ribbing.krec"
+	@examples/start target/bin/bench < examples/ribbing.krec
 
 test:
 	@bash .ci/run
