@@ -9,6 +9,7 @@ mod place_test;
 mod refusal;
 mod relation;
 mod steps;
+mod widths;
 
 pub use kinds::Offset;
 pub use kinds::Place;
@@ -26,3 +27,5 @@ pub use relation::same;
 pub use steps::Counts;
 pub use steps::Meeting;
 pub use steps::Tested;
+pub use widths::wide16;
+pub use widths::wide32;

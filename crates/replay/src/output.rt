@@ -1,13 +1,14 @@
 // Text in a buffer: each function puts something at a place and answers the place after it. What does not fit is left out, and
 // then the output differs from what is stored.
 
+use order::UNUSED;
+use order::wide16;
+use order::wide32;
 ghost use Prim.Native.Nat.{_+_, _≤_, _<_};
 
 const GUARD16: u16 = 43690;
 
 const GUARD32: u32 = 2863311530;
-
-const UNUSED: u32 = 4294967295;
 
 pub(crate) fn put_byte(out: &mut [u8], at: usize, b: u8) -> usize {
     if at < out.len() {
@@ -45,14 +46,6 @@ fn put_run(out: &mut [u8], at: usize, mark: u8, run: usize) -> usize {
     let mut next = put_byte(out, at, b' ');
     next = put_byte(out, next, mark);
     put_text(out, next, &digits[..k])
-}
-
-fn wide16(x: u16) -> usize {
-    x as usize
-}
-
-fn wide32(x: u32) -> usize {
-    x as usize
 }
 
 // An entry that ends a run: the run, and then the entry. One that goes on with the run is counted.

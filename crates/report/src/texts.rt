@@ -1,18 +1,13 @@
 // Bytes, texts and decimal numbers, put into a buffer from a place on. Each function answers the place after what it put and
 // leaves every other byte as it was. Follows docs/RULES.md, "The program". A byte takes one step; a number of d digits takes d calls.
 
+use order::wide32;
 ghost use mathlib.Core.Path.{_≡_};
 ghost use mathlib.Core.List.{_∷_, [], _++_};
 ghost use Prim.Native.Nat.{_+_, _≤_, _<_};
 ghost use lib.ListN.{length};
 ghost use Rattle.report.specs.Decimals.{digit, decimal};
 ghost use Rattle.report.specs.Puts.{Put, PutWithin};
-
-pub(crate) fn wide32(x: u32) -> usize
-    ensures { λ r. ⌜ (r ≡ x) × (r < 4294967296) ⌝ }
-{
-    x as usize
-}
 
 pub(crate) fn put_byte(out: &mut [u8], at: usize, byte: u8) -> usize
     requires { ⌜ at < length (now out) ⌝ }

@@ -11,6 +11,8 @@ use order::Offset;
 use order::Place;
 use order::Relation;
 use order::Window;
+use order::wide16;
+use order::wide32;
 ghost use mathlib.Core.Path.{_≡_};
 ghost use Prim.Native.Nat.{ℕ, _+_, _<_, _≤_};
 ghost use lib.ListN.{length, drop};
@@ -61,18 +63,6 @@ fn duel(pattern: &[i32], trace: &[i32], y: Window, a: Offset, i: Place, j: Place
     Meeting::BothFall // it suits neither
 }
 
-fn wide(x: u16) -> usize
-    ensures { λ r. ⌜ r ≡ x ⌝ }
-{
-    x as usize
-}
-
-fn wide32(x: u32) -> usize
-    ensures { λ r. ⌜ r ≡ x ⌝ }
-{
-    x as usize
-}
-
 // What becomes of window x when the later window y looks at it.
 fn meet(
     pattern: &[i32],
@@ -95,7 +85,7 @@ fn meet(
         return Meeting::Agree;
     }
     let j = witness_j[a];
-    duel(pattern, trace, y, apart, Place(wide(i)), Place(wide(j)))
+    duel(pattern, trace, y, apart, Place(wide16(i)), Place(wide16(j)))
 }
 
 // All windows below `windows` arrive.

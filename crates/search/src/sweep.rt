@@ -8,6 +8,7 @@ use order::Place;
 use order::Tested;
 use order::Window;
 use order::test_place;
+use order::wide32;
 ghost use mathlib.Core.Path.{_≡_};
 ghost use mathlib.Core.Bool.{cond};
 ghost use Prim.Native.Nat.{ℕ, _+_, _<_, _≤_, max};
@@ -26,12 +27,6 @@ struct Reached {
 pub(crate) struct Swept {
     pub spent: u32,
     pub found: usize,
-}
-
-fn wide32(x: u32) -> usize
-    ensures { λ r. ⌜ r ≡ x ⌝ }
-{
-    x as usize
 }
 
 fn larger(a: usize, b: usize) -> usize

@@ -15,7 +15,7 @@ use Rattle.replay.proofs.output.put_byte.Reads as put-byte-reads
 use Rattle.replay.proofs.output.put_entry.Reads as put-entry-reads
 use Rattle.replay.proofs.output.put_run.Reads as put-run-reads
 use Rattle.replay.proofs.output.put_text.Reads as put-text-reads
-use Rattle.replay.proofs.output.wide16.Reads as wide16-reads
+use Rattle.order.proofs.wide16.Reads as wide16-reads
 
 abbrev Inv-loop : tie.InvT-loop
 Inv-loop out₀ at name table next₀ run₀ k₀ out next run k = (length out ≡ length out₀) × (run ≤ k)

@@ -14,7 +14,7 @@ use Rattle.search.proofs.duels.duel_all.Tie as tie
 use Rattle.search.proofs.duels.duel_all.Reads as reads
 use Rattle.search.proofs.duels.duel_all.Lts as lts
 use Rattle.search.proofs.duels.meet.Reads as meet-reads
-use Rattle.search.proofs.duels.wide32.Reads as wide32-reads
+use Rattle.order.proofs.wide32.Reads as wide32-reads
 
 abbrev Inv-loop : tie.InvT-loop
 Inv-loop pattern witness-i witness-j trace windows survivors kept₀ fought₀ y arriving kept fought =
@@ -61,7 +61,7 @@ meet-requires c κs =
     let w = l .before .before in
     let s = w .before .before .before .before in
     let f = l .loop .inv .fewer in
-    let x = c .wide32 .ensures in
+    let x = c .wide32 .ensures .0 in
     let below = kept-below (w .windows .inv) (l .loop .kept - 1) (omega arith) in
     record {
       own = s .pre .own;
@@ -86,7 +86,7 @@ loop-less c = search needs
 
 loop-again : tie.Need-loop-again Inv-loop μ-loop Inv-windows μ-windows
 loop-again c =
-    look-again (c .before .before .before .before .before .before .loop .inv) (c .before .before .before .before .before .if1 .left) (c .before .before .before .wide32 .ensures) (sym (c .before .before .meet .ensures) ∙ c .enum-told2 .given .1)
+    look-again (c .before .before .before .before .before .before .loop .inv) (c .before .before .before .before .before .if1 .left) (c .before .before .before .wide32 .ensures .0) (sym (c .before .before .meet .ensures) ∙ c .enum-told2 .given .1)
 
 enum-told-3 : tie.Need-enum-told-3 Inv-loop μ-loop Inv-windows μ-windows
 enum-told-3 c = search needs
@@ -118,10 +118,10 @@ settled c =
     ⊎-elim
     (λ w. settled-as (w .1) (w .2) (w .3) (settle-empty i (w .0 .taken)))
     (⊎-elim
-    (λ w. settled-as (w .6) (w .7) (w .8) (settle-agree i (w .0 .left) (w .2 .ensures) (sym (w .3 .ensures) ∙ w .5 .given .1)))
+    (λ w. settled-as (w .6) (w .7) (w .8) (settle-agree i (w .0 .left) (w .2 .ensures .0) (sym (w .3 .ensures) ∙ w .5 .given .1)))
     (⊎-elim
-    (λ w. settled-as (w .6) (w .7) (w .8) (settle-newer i (w .0 .left) (w .2 .ensures) (sym (w .3 .ensures) ∙ w .5 .given .1)))
-    (λ w. settled-as (w .6) (w .7) (w .8) (settle-both i (w .0 .left) (w .2 .ensures) (sym (w .3 .ensures) ∙ w .5 .given .1)))))
+    (λ w. settled-as (w .6) (w .7) (w .8) (settle-newer i (w .0 .left) (w .2 .ensures .0) (sym (w .3 .ensures) ∙ w .5 .given .1)))
+    (λ w. settled-as (w .6) (w .7) (w .8) (settle-both i (w .0 .left) (w .2 .ensures .0) (sym (w .3 .ensures) ∙ w .5 .given .1)))))
     (c .if1 .came)
 
 windows-less : tie.Need-windows-less Inv-loop μ-loop Inv-windows μ-windows

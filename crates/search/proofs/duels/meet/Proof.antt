@@ -15,7 +15,7 @@ use Rattle.search.proofs.duels.meet.Reads as reads
 use Rattle.search.proofs.duels.meet.Lts as lts
 use Rattle.order.proofs.kinds.Offset.between.Reads as between-reads
 use Rattle.search.proofs.duels.duel.Reads as duel-reads
-use Rattle.search.proofs.duels.wide.Reads as wide-reads
+use Rattle.order.proofs.wide16.Reads as wide16-reads
 
 -- the offset is the windows' distance
 offset-is : (c : tie.After-between) → c .between .result .0 ≡ c .before .before .before .args .y .0 - c .before .before .before .args .x .0
@@ -64,23 +64,23 @@ shared-slice-read-j : tie.Need-shared-slice-read-j
 shared-slice-read-j c = search needs
 
 -- src/duels.rt:96:42
-wide-requires : tie.Need-wide-requires
-wide-requires c κs = search needs
+wide16-requires : tie.Need-wide16-requires
+wide16-requires c κs = search needs
 
 -- src/duels.rt:96:58
-wide-requires-2 : tie.Need-wide-requires-2
-wide-requires-2 c κs = search needs
+wide16-requires-2 : tie.Need-wide16-requires-2
+wide16-requires-2 c κs = search needs
 
 -- src/duels.rt:96:5
 duel-requires : tie.Need-duel-requires
 duel-requires c κs =
     duelable (facing (c .before .before .before)) (offset-is (c .before .before .before .before .before .before))
-    (c .before .wide .ensures) (c .wide2 .ensures) (c .before .before .before .before .before .before .before .before .before .pre .inside)
+    (c .before .wide16 .ensures) (c .wide162 .ensures) (c .before .before .before .before .before .before .before .before .before .pre .inside)
 
 returns-3 : tie.Need-returns-3
 returns-3 c =
     meeting-told (facing (c .before .before .before .before)) (offset-is (c .before .before .before .before .before .before .before))
-    (c .before .before .wide .ensures) (c .before .wide2 .ensures) (c .duel .ensures)
+    (c .before .before .wide16 .ensures) (c .before .wide162 .ensures) (c .duel .ensures)
 
 pub meet-spec : {M : Type 1} → statement M
 meet-spec =
@@ -93,7 +93,7 @@ meet-spec =
     returns-2
     mul-j
     shared-slice-read-j
-    wide-requires
-    wide-requires-2
+    wide16-requires
+    wide16-requires-2
     duel-requires
     returns-3)

@@ -17,7 +17,7 @@ use Rattle.search.proofs.sweep.sweep_all.Lts as lts
 use Rattle.search.proofs.sweep.larger.Reads as larger-reads
 use Rattle.search.proofs.sweep.list_one.Reads as list-one-reads
 use Rattle.search.proofs.sweep.sweep_one.Reads as sweep-one-reads
-use Rattle.search.proofs.sweep.wide32.Reads as wide32-reads
+use Rattle.order.proofs.wide32.Reads as wide32-reads
 
 abbrev Inv-loop : tie.InvT-loop
 Inv-loop pattern low high trace survivors kept positions₀ reach₀ spent₀ found₀ k₀ positions reach spent found k =
@@ -78,7 +78,7 @@ sweep-one-requires c κs =
     let b = i .bound in
     let r = i .reached in
     let t = s .pre .trace in
-    let x = c .before .wide32 .ensures in
+    let x = c .before .wide32 .ensures .0 in
     let e = survivor (c .before .before .before) in
     let g = c .larger .ensures in
     record { own = s .pre .own; trace = t; inside = omega arith; begun = omega arith; small = omega (arith, few-kept s) }
@@ -111,7 +111,7 @@ loop-again c =
     let e = entry-of (now (s .args .pattern)) (now (s .args .trace)) (s .args .kept) (now (s .args .survivors)) (c .before .before .before .before .before .before .before .before .before .loop .k) (s .pre .held) h in
     rw (c .before .before .list-one .ensures .0, c .before .before .list-one .ensures .1)
     (next-swept i h (number s) e (s .pre .room)
-    (swept-as (c .before .before .before .before .before .before .before .before .before .loop .reach) (c .before .before .before .before .before .before .wide32 .ensures) (c .before .before .before .before .before .larger .ensures) (c .before .before .before .before .sweep-one .ensures)) (survivor (c .before .before .before .before .before .before .before .before)))
+    (swept-as (c .before .before .before .before .before .before .before .before .before .loop .reach) (c .before .before .before .before .before .before .wide32 .ensures .0) (c .before .before .before .before .before .larger .ensures) (c .before .before .before .before .sweep-one .ensures)) (survivor (c .before .before .before .before .before .before .before .before)))
 
 -- src/sweep.rt:89:1
 same-length : tie.Need-same-length Inv-loop μ-loop
