@@ -6,7 +6,8 @@
  *
  * Beside that it looks at every byte itself: each buffer ends right at memory that can't be touched, or begins right after it with
  * --front, and guard bytes stand at its other end; each buffer has some bytes left over at its end, what is only read must stay,
- * and the counts buffer is tried at every length. A fault ends the run with status 1.
+ * and the counts buffer is tried at every length. With --front an empty buffer is given as a null pointer. A fault ends the run
+ * with status 1.
  */
 #define _DEFAULT_SOURCE /* MAP_ANONYMOUS */
 #include <signal.h>
@@ -160,6 +161,18 @@ static void show(const char *name, const struct buffer *b)
     printf("\n");
 }
 
+/* What a call is given for a buffer: with --front a null pointer for an empty one. */
+static uint8_t *lent(const struct buffer *b)
+{
+    return front && b->length == 0 ? NULL : b->bytes;
+}
+
+static uint64_t prepare(const struct buffer *pattern, const struct buffer *t)
+{
+    return tension_prepare(lent(pattern), pattern->length, lent(&t[0]), t[0].length, lent(&t[1]), t[1].length,
+                           lent(&t[2]), t[2].length, lent(&t[3]), t[3].length);
+}
+
 static void prepare_case(void)
 {
     static const char *names[4] = {"low", "high", "wi", "wj"};
@@ -172,8 +185,7 @@ static void prepare_case(void)
         make(&t[k], number(2), 2, cases / 2 + (unsigned)k);
         remember(&t[k]);
     }
-    answer = tension_prepare(pattern.bytes, pattern.length, t[0].bytes, t[0].length, t[1].bytes, t[1].length,
-                             t[2].bytes, t[2].length, t[3].bytes, t[3].length);
+    answer = prepare(&pattern, t);
     printf("prepare %lu %lu\n", (unsigned long)TENSION_NUMBER(answer), (unsigned long)TENSION_PLACE(answer));
     look(&pattern, 0);
     for (k = 0; k < 4; k++) {
@@ -182,72 +194,96 @@ static void prepare_case(void)
     }
 }
 
-/* One call of the search, with a counts buffer of some length. */
-static uint64_t call(struct buffer *pattern, struct buffer *t, struct buffer *trace, struct buffer *survivors,
-                     struct buffer *positions, struct buffer *counts)
-{
-    return tension_search(pattern->bytes, pattern->length, t[0].bytes, t[0].length, t[1].bytes, t[1].length, t[2].bytes,
-                          t[2].length, t[3].bytes, t[3].length, trace->bytes, trace->length, survivors->bytes,
-                          survivors->length, positions->bytes, positions->length, counts->bytes, counts->length);
-}
+/* The buffers of a search; `few` is another for the counts, of any length. */
+struct search {
+    struct buffer pattern, t[4], trace, survivors, positions, counts, few;
+};
 
-static void search_case(void)
+/* The tables of a case: the pattern's own, with some entries damaged, in buffers of the lengths that the case has. */
+static void make_tables(struct search *s)
 {
-    struct buffer pattern, full[4], t[4], trace, survivors, positions, counts, few;
-    uint64_t answer;
-    uint32_t damages, windows, k;
+    struct buffer full[4];
+    uint32_t damages;
     int n;
 
-    samples(&pattern, cases / 3);
-    number(1);
     for (n = 0; n < 4; n++) {
         make(&full[n], TABLE, 2, 0);
         memset(full[n].bytes, 0, full[n].length);
     }
-    tension_prepare(pattern.bytes, pattern.length, full[0].bytes, full[0].length, full[1].bytes, full[1].length,
-                    full[2].bytes, full[2].length, full[3].bytes, full[3].length);
+    prepare(&s->pattern, full);
     for (n = 0; n < 4; n++)
-        make(&t[n], number(2), 2, cases + (unsigned)n);
+        make(&s->t[n], number(2), 2, cases + (unsigned)n);
     for (damages = number(1); damages > 0; damages--) {
         uint32_t table = number(1), entry = number(2), value = number(2);
         put(&full[table - 1], entry, value);
     }
     for (n = 0; n < 4; n++) {
-        memcpy(t[n].bytes, full[n].bytes, 2 * t[n].entries);
-        remember(&t[n]);
+        memcpy(s->t[n].bytes, full[n].bytes, 2 * s->t[n].entries);
+        remember(&s->t[n]);
     }
-    samples(&trace, cases / 5);
-    make(&survivors, number(4), 4, cases / 2);
-    make(&positions, number(4), 4, cases / 7);
-    make(&counts, TENSION_COUNTS, 4, cases);
-    make(&few, cases % (TENSION_COUNTS + 3), 4, cases / 11);
-    remember(&survivors);
-    remember(&positions);
-    remember(&counts);
-    remember(&few);
+}
 
-    answer = call(&pattern, t, &trace, &survivors, &positions, &counts);
-    windows = trace.entries < pattern.entries ? 0 : (uint32_t)(trace.entries - pattern.entries + 1);
+static void read_search(struct search *s)
+{
+    samples(&s->pattern, cases / 3);
+    number(1);
+    make_tables(s);
+    samples(&s->trace, cases / 5);
+    make(&s->survivors, number(4), 4, cases / 2);
+    make(&s->positions, number(4), 4, cases / 7);
+    make(&s->counts, TENSION_COUNTS, 4, cases);
+    make(&s->few, cases % (TENSION_COUNTS + 3), 4, cases / 11);
+    remember(&s->survivors);
+    remember(&s->positions);
+    remember(&s->counts);
+    remember(&s->few);
+}
+
+/* One call of the search, with a counts buffer of some length. */
+static uint64_t call(const struct search *s, const struct buffer *counts)
+{
+    return tension_search(lent(&s->pattern), s->pattern.length, lent(&s->t[0]), s->t[0].length, lent(&s->t[1]),
+                          s->t[1].length, lent(&s->t[2]), s->t[2].length, lent(&s->t[3]), s->t[3].length,
+                          lent(&s->trace), s->trace.length, lent(&s->survivors), s->survivors.length,
+                          lent(&s->positions), s->positions.length, lent(counts), counts->length);
+}
+
+/* Only what an accepted search writes has changed. */
+static void look_at_search(const struct search *s, int accepted)
+{
+    size_t m = s->pattern.entries, n = s->trace.entries, windows = n < m ? 0 : n - m + 1;
+    int k;
+    look(&s->pattern, 0);
+    look(&s->trace, 0);
+    for (k = 0; k < 4; k++)
+        look(&s->t[k], 0);
+    look(&s->survivors, accepted ? windows : 0);
+    look(&s->positions, accepted ? windows : 0);
+    look(&s->counts, accepted ? TENSION_COUNTS : 0);
+}
+
+static void search_case(void)
+{
+    struct search s;
+    uint64_t answer;
+    uint32_t k;
+
+    read_search(&s);
+    answer = call(&s, &s.counts);
     printf("search %lu %lu", (unsigned long)TENSION_NUMBER(answer), (unsigned long)TENSION_PLACE(answer));
     for (k = 0; !answer && k < TENSION_COUNTS; k++)
-        printf(" %lu", (unsigned long)get(&counts, k));
+        printf(" %lu", (unsigned long)get(&s.counts, k));
     printf("\n");
-    look(&pattern, 0);
-    look(&trace, 0);
-    for (n = 0; n < 4; n++)
-        look(&t[n], 0);
-    look(&survivors, answer ? 0 : windows);
-    look(&positions, answer ? 0 : windows);
-    look(&counts, answer ? 0 : TENSION_COUNTS);
-    show("survivors", &survivors);
-    show("positions", &positions);
+    look_at_search(&s, !answer);
+    show("survivors", &s.survivors);
+    show("positions", &s.positions);
 
     /* Again, with room for fewer counts, or for more. */
-    if (call(&pattern, t, &trace, &survivors, &positions, &few) != answer)
+    if (call(&s, &s.few) != answer)
         fail("the same call answers otherwise");
-    look(&few, answer ? 0 : TENSION_COUNTS);
-    for (k = 0; !answer && k < few.entries && k < TENSION_COUNTS; k++)
-        if (get(&few, k) != get(&counts, k))
+    look(&s.few, answer ? 0 : TENSION_COUNTS);
+    for (k = 0; !answer && k < s.few.entries && k < TENSION_COUNTS; k++)
+        if (get(&s.few, k) != get(&s.counts, k))
             fail("a count depends on the buffer's length");
 }
 

@@ -1,4 +1,4 @@
-"""The scope's examples a to m, by letter."""
+"""Examples a to m of docs/RULES.md, by letter."""
 
 import struct
 import unittest

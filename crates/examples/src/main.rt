@@ -1,5 +1,6 @@
 // Runs the worked examples of docs/RULES.md through the library's public calls and prints what each comes to. What it must
-// print, the file stdout, is written by hand from docs/RULES.md, "Examples".
+// print, the file stdout, is written by hand from docs/RULES.md, "Examples"; the counts at the limits (k), which that page doesn't
+// give, are the reference program's. Takes what the calls take, one after the other.
 
 use order::Counts;
 use order::Refusal;
@@ -97,7 +98,7 @@ fn kept(answer: Searched) -> usize {
     }
 }
 
-// An example with small buffers: its tables are prepared, one of them may be damaged, and the trace is searched.
+// An example with small buffers: its tables are prepared, and the trace is searched.
 fn example(letter: &[u8], pattern: &[i32], trace: &[i32]) {
     let mut low = [0u16; 8];
     let mut high = [0u16; 8];

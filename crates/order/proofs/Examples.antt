@@ -76,7 +76,8 @@ examples =
     searched (up (1 ∷ 2 ∷ 3 ∷ [])) (up (1 ∷ 2 ∷ 3 ∷ 4 ∷ 5 ∷ [])) 3 0 (0 ∷ 1 ∷ 2 ∷ []) 4 (0 ∷ 1 ∷ 2 ∷ []) ∷
     -- j
     searched (negsuc 2147483647 ∷ pos 2147483647 ∷ []) (pos 2147483647 ∷ negsuc 2147483647 ∷ pos 0 ∷ []) 2 0 (0 ∷ 1 ∷ []) 2 (1 ∷ []) ∷
-    -- the call on two windows, with b's table: apart by 1, by 3 and turned round, by the pattern's length, by nothing
+    -- the call on two windows, with b's table: apart by 1, by 3, by 2 and turned round, by the pattern's length; and, with an
+    -- entry 0 that is no "none", by nothing
     together 4 (∅ ∷ 0 ∷ 0 ∷ ∅ ∷ []) 5 6 false ∷
     together 4 (∅ ∷ 0 ∷ 0 ∷ ∅ ∷ []) 5 8 true ∷
     together 4 (∅ ∷ 0 ∷ 0 ∷ ∅ ∷ []) 7 5 false ∷

@@ -12,7 +12,7 @@ use borrow.Author.Tests.{leb-true, leb-false, ltb-true, ltb-false, le-leb, lt-le
 use Rattle.order.specs.declared.relation.Relation.{Relation}
 use Rattle.order.specs.declared.relation.Relation.the-variants.{Less, Equal, Greater}
 use Rattle.order.specs.Relations.{rel, alike}
-use Rattle.order.proofs.Tests.{clash, same-test, must-pass, must-fail}
+use Rattle.order.proofs.Tests.{clash, same-test, must-fail}
 
 -- "below" is "not at least"
 ltb-not-leb : (a b : ℕ) → ltb a b ≡ not (leb b a)
@@ -58,19 +58,15 @@ leZ-trans (negsuc a) (negsuc b) (pos c) p q = refl
 leZ-trans (negsuc a) (negsuc b) (negsuc c) p q = leb-trans c b a q p
 
 -- the relation from the two tests
-abbrev told : Bool → Bool → Relation
-told t s = cond t (cond s Equal Less) Greater
-
-rel-told : (a b : ℤ) → rel a b ≡ told (leZ a b) (leZ b a)
-unfolding rel
-rel-told a b = refl
+abbrev relTold : Bool → Bool → Relation
+relTold t s = cond t (cond s Equal Less) Greater
 
 -- the relation from the machine's tests
 pub rel-less : (a b : ℤ) → ltZ a b ≡ true → rel a b ≡ Less
 unfolding rel
 rel-less a b e = go (leZ b a) refl
   where
-    go : (s : Bool) → leZ b a ≡ s → told (leZ a b) (leZ b a) ≡ Less
+    go : (s : Bool) → leZ b a ≡ s → relTold (leZ a b) (leZ b a) ≡ Less
     go true k = clash e (ltZ-not-leZ a b ∙ ap not k)
     go false k = rw (leZ-total b a k, k) refl
 
@@ -78,7 +74,7 @@ pub rel-greater : (a b : ℤ) → ltZ b a ≡ true → rel a b ≡ Greater
 unfolding rel
 rel-greater a b e = go (leZ a b) refl
   where
-    go : (s : Bool) → leZ a b ≡ s → told (leZ a b) (leZ b a) ≡ Greater
+    go : (s : Bool) → leZ a b ≡ s → relTold (leZ a b) (leZ b a) ≡ Greater
     go true k = clash e (ltZ-not-leZ b a ∙ ap not k)
     go false k = rw k refl
 
@@ -86,7 +82,7 @@ pub rel-equal : (a b : ℤ) → ltZ a b ≡ false → ltZ b a ≡ false → rel 
 unfolding rel
 rel-equal a b e f = go (leZ a b) (leZ b a) refl refl
   where
-    go : (t s : Bool) → leZ a b ≡ t → leZ b a ≡ s → told (leZ a b) (leZ b a) ≡ Equal
+    go : (t s : Bool) → leZ a b ≡ t → leZ b a ≡ s → relTold (leZ a b) (leZ b a) ≡ Equal
     go true true h k = rw (h, k) refl
     go true false h k = clash (ltZ-not-leZ a b ∙ ap not k) e
     go false s h k = clash (ltZ-not-leZ b a ∙ ap not h) f
@@ -114,7 +110,7 @@ unfolding rel
 same-tests-alike a b c d p q = rw (p, q) refl
 
 -- and only there
-tests-of : (t s t' s' : Bool) → (t ≡ false → s ≡ true) → (t' ≡ false → s' ≡ true) → told t s ≡ told t' s' → (t ≡ t') × (s ≡ s')
+tests-of : (t s t' s' : Bool) → (t ≡ false → s ≡ true) → (t' ≡ false → s' ≡ true) → relTold t s ≡ relTold t' s' → (t ≡ t') × (s ≡ s')
 tests-of true true true true f g e = (refl, refl)
 tests-of true true true false f g e = (refl, cc)
 tests-of true true false s' f g e = (cc, cc)

@@ -15,10 +15,6 @@ same-test false true f g = g refl
 same-test false false f g = refl
 
 -- a test that cannot fail passes, and one that cannot pass fails
-pub must-pass : (b : Bool) → (b ≡ false → ⊥) → b ≡ true
-must-pass true f = refl
-must-pass false f = absurd (f refl)
-
 pub must-fail : (b : Bool) → (b ≡ true → ⊥) → b ≡ false
 must-fail true f = absurd (f refl)
 must-fail false f = refl

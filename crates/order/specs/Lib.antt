@@ -1,4 +1,5 @@
--- The rules of docs/RULES.md as definitions, a file to a heading and in the same order.
+-- The rules of docs/RULES.md as definitions, in the order of its headings, each of which names its file. `Equivalence` and
+-- `EntryTest` are no rules: the first names what the laws rest on, the second what the code's test of a place does.
 pub mod Sizes
 pub mod Relations
 pub mod Isomorphic

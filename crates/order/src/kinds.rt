@@ -1,5 +1,5 @@
-// A window's start, the distance between two windows and a place in the pattern are all small numbers. Each has a type of
-// its own, so that one given for another does not compile. Follows docs/RULES.md, "Sizes".
+// Windows, offsets and places are told apart by their types: handing over one of them where another is asked for is an error
+// of the compiler's. Follows docs/RULES.md, "Sizes". The types cost nothing; a distance is one comparison and one subtraction.
 
 ghost use mathlib.Core.Path.{_≡_};
 ghost use Rattle.order.specs.Agree.{distance};

@@ -1,5 +1,5 @@
-// Why a call was refused. One enum serves every call, and this file with specs/Refusals.antt is the only place that knows
-// the numbers. Follows docs/RULES.md, "Refusals".
+// Why a call was refused. One enum serves every call; of the crates, this file with specs/Refusals.antt is the only place that
+// knows the numbers. Follows docs/RULES.md, "Refusals". Each function is one look at the case.
 
 ghost use mathlib.Core.Path.{_≡_};
 ghost use Rattle.order.specs.Refusals.{tableNumber, numberOf, placeOf};

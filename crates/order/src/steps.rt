@@ -1,5 +1,5 @@
 // What one step of a search comes to, and what a whole search counts: the words that the rules of specs/ and the code of
-// the search share. Follows docs/RULES.md, "Test of a place", "Duels", "Sweep" and "Counts".
+// the search share. Follows docs/RULES.md, "Test of a place", "Duels", "Sweep" and "Counts". These are types alone.
 
 // What the test of one place comes to: the comparisons it spent and, where it failed, the neighbour that it failed at.
 pub enum Tested {

@@ -5,15 +5,15 @@ ghost use mathlib.Core.Path.{_≡_};
 ghost use Prim.Native.Nat.{_<_};
 
 // A table's entry.
-pub fn wide16(x: u16) -> usize
-    ensures { λ r. ⌜ r ≡ x ⌝ }
+pub fn wide16(entry: u16) -> usize
+    ensures { λ r. ⌜ r ≡ entry ⌝ }
 {
-    x as usize
+    entry as usize
 }
 
 // A window, or a count.
-pub fn wide32(x: u32) -> usize
-    ensures { λ r. ⌜ (r ≡ x) × (r < 4294967296) ⌝ }
+pub fn wide32(window: u32) -> usize
+    ensures { λ r. ⌜ (r ≡ window) × (r < 4294967296) ⌝ }
 {
-    x as usize
+    window as usize
 }

@@ -1,4 +1,5 @@
 // The stream's numbers and lists, read from standard input. A stream that ends early reads as zeros.
+// Follows reference/README.md, "The stream of cases". A step for each byte.
 
 ghost use Prim.Native.Nat.{_≤_, _<_};
 ghost use lib.ListN.{length};

@@ -2,7 +2,8 @@
 // and every buffer after it to standard output. The cases and what they must come to are made by reference/, which shares
 // nothing with the library; reference/README.md has the stream's format.
 //
-// Buffers are filled with a guard value before each call, so that an entry which a call should have kept shows.
+// Buffers are filled with a guard value before each call, so that an entry which a call should have kept shows. What a call must
+// come to is docs/RULES.md's; a case takes what its call takes, and a step for each entry read and written.
 
 mod input;
 mod output;

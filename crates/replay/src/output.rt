@@ -1,5 +1,5 @@
 // Text in a buffer: each function puts something at a place and answers the place after it. What does not fit is left out, and
-// then the output differs from what is stored.
+// then the output differs from what is stored. Follows reference/README.md, "The stream of cases". A step for each byte.
 
 use order::UNUSED;
 use order::wide16;

@@ -1,5 +1,5 @@
 -- `main` is safe and ends: what is written out lies within the buffer that the report was written into.
--- Assumes nothing.
+-- Assumes the contracts of the C library's calls, by which input and output are made, and nothing else.
 use borrow.Author.Needs.{needs}
 use Rattle.bench.proofs.main.Statement.{statement}
 use Rattle.bench.proofs.main.Tie as tie
