@@ -17,3 +17,4 @@ pub mod Meetings
 pub mod Dueling
 pub mod SweepLaws
 pub mod Whole
+pub mod Signs

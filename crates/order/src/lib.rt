@@ -1,7 +1,7 @@
 // The words that every crate of the library shares: how two samples compare, the three kinds of number that look alike,
 // the limits, and the refusals. The rules themselves are definitions, in specs/.
 //
-// Follows docs/RULES.md, "Sizes", "Relation" and "Refusals". Each function takes a handful of steps and assumes nothing.
+// Follows docs/RULES.md, "Sizes", "Relation", "Test of a place", "Recordings" and "Refusals". Each function takes a handful of steps and assumes nothing.
 
 mod kinds;
 mod limits;
@@ -10,6 +10,7 @@ mod refusal;
 mod relation;
 mod steps;
 mod widths;
+mod words;
 
 pub use kinds::Offset;
 pub use kinds::Place;
@@ -29,3 +30,5 @@ pub use steps::Meeting;
 pub use steps::Tested;
 pub use widths::wide16;
 pub use widths::wide32;
+pub use words::from_bits;
+pub use words::word_of;

@@ -1,5 +1,4 @@
 -- The laws that the functions' proofs cite, in the order of the argument.
-pub mod Signs
 pub mod Marks
 pub mod Rows
 pub mod Readings
