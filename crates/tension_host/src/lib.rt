@@ -1,16 +1,76 @@
-// The entry points for a C host: preparation and search on little-endian bytes.
+// The entry points for a C host: preparation and search on little-endian bytes, exported under C's names.
 //
-// Follows docs/RULES.md, "The C entry points". Thin over the crate `search`: lengths are checked, bytes become numbers in local
-// arrays, the library is called, and what it wrote becomes bytes again. The stack that each call takes is said in its file.
+// Follows docs/RULES.md, "The C entry points". Each is one call of the crate `host_calls`, which says what it costs.
 
-mod answering;
-mod buffers;
-mod preparing;
-mod results;
-mod searching;
-mod tiers;
-mod words;
+ghost use Rattle.host_calls.specs.HostPromises.{HostPrepare, HostSearch};
 
-pub use preparing::tension_prepare;
-pub use tiers::tension_search;
-pub use tiers::tension_search_large;
+// Prepares a pattern of 4-byte samples: its tables of 2-byte entries are written, or nothing is.
+#[no_mangle]
+pub extern "C" fn tension_prepare(
+    pattern: &[u8],
+    low: &mut [u8],
+    high: &mut [u8],
+    witness_i: &mut [u8],
+    witness_j: &mut [u8],
+) -> u64
+    ensures { λ r. ⌜ HostPrepare (now (pattern .entry)) (now (low .entry)) (now (high .entry)) (now («witness_i» .entry)) (now («witness_j» .entry)) r (now (low .exit)) (now (high .exit)) (now («witness_i» .exit)) (now («witness_j» .exit)) ⌝ }
+{
+    host_calls::prepare(pattern, low, high, witness_i, witness_j)
+}
+
+// Searches a trace of 4-byte samples: survivors, positions and counts of 4 bytes each are written, or nothing is.
+#[no_mangle]
+pub extern "C" fn tension_search(
+    pattern: &[u8],
+    low: &[u8],
+    high: &[u8],
+    witness_i: &[u8],
+    witness_j: &[u8],
+    trace: &[u8],
+    survivors: &mut [u8],
+    positions: &mut [u8],
+    counts: &mut [u8],
+) -> u64
+    ensures { λ r. ⌜ HostSearch (now (pattern .entry)) (now (low .entry)) (now (high .entry)) (now («witness_i» .entry)) (now («witness_j» .entry)) (now (trace .entry)) (now (survivors .entry)) (now (positions .entry)) (now (counts .entry)) r (now (survivors .exit)) (now (positions .exit)) (now (counts .exit)) ⌝ }
+{
+    host_calls::search(
+        pattern,
+        low,
+        high,
+        witness_i,
+        witness_j,
+        trace,
+        survivors,
+        positions,
+        counts,
+    )
+}
+
+// The search in the large arrays, whatever the trace's length. With it the large search has two callers, and stays out of line:
+// made part of `tension_search` its arrays would be in the frame of small calls too.
+#[no_mangle]
+pub extern "C" fn tension_search_large(
+    pattern: &[u8],
+    low: &[u8],
+    high: &[u8],
+    witness_i: &[u8],
+    witness_j: &[u8],
+    trace: &[u8],
+    survivors: &mut [u8],
+    positions: &mut [u8],
+    counts: &mut [u8],
+) -> u64
+    ensures { λ r. ⌜ HostSearch (now (pattern .entry)) (now (low .entry)) (now (high .entry)) (now («witness_i» .entry)) (now («witness_j» .entry)) (now (trace .entry)) (now (survivors .entry)) (now (positions .entry)) (now (counts .entry)) r (now (survivors .exit)) (now (positions .exit)) (now (counts .exit)) ⌝ }
+{
+    host_calls::search_large(
+        pattern,
+        low,
+        high,
+        witness_i,
+        witness_j,
+        trace,
+        survivors,
+        positions,
+        counts,
+    )
+}

@@ -1,0 +1,131 @@
+-- Shows: lengths with room are accepted, so preparation in arrays for any pattern makes the tables; and what the call
+-- leaves meets its promise, which no second result or content of a table satisfies.
+-- Assumes nothing.
+use Prim.Native.Nat.{ℕ, zero, suc, _-_, _/_, _≤_}
+use mathlib.Core.Path.{_≡_, refl, sym, _∙_, ap}
+use mathlib.Core.List.{List}
+use native.Mathlib.Omega.{arith}
+use native.Mathlib.Nat.{sub-zero}
+use lib.IntN.{ℤ}
+use lib.ListN.{length, take}
+use borrow.Author.Tests.{ne-eqb, le-ltb}
+use Rattle.order.specs.declared.refusal.Refusal.{Refusal}
+use Rattle.order.specs.Sizes.{each, patternLimit, windowsOf}
+use Rattle.order.specs.Neighbours.{lowTable, highTable}
+use Rattle.order.specs.Witnesses.{witnessITable, witnessJTable}
+use Rattle.order.specs.Refusals.{Verdict, accepted, refused, patternVerdict, witnessesVerdict, tablesVerdict, roomVerdict, prepareVerdict}
+use Rattle.order.specs.Written.{over}
+use Rattle.order.proofs.Lists.{length-each, windowsOf-as}
+use Rattle.tables.specs.declared.answers.Prepared.{Prepared}
+use Rattle.tables.specs.declared.fitting_lengths.Fitting.{Fitting}
+use Rattle.tables.specs.declared.fitting_lengths.Fitting.the-variants.{Fit, Refused}
+use Rattle.order.specs.Written.{afterVerdict}
+use Rattle.tables.specs.Asked.{Room}
+use Rattle.tables.specs.Promises.{PreparePromise, sizesVerdict}
+use Rattle.tables.specs.Lengths.{lengthsVerdict, lengthsBy, LengthsPromise}
+use Rattle.tables.proofs.Verdicts.{prepare-room}
+use Rattle.wire.specs.Bytes.{samplesIn, bytesOf}
+use Rattle.wire.specs.Results.{codedRefusal}
+use Rattle.wire.specs.Handed.{entriesPut}
+use Rattle.wire.proofs.Handing.{over-front, entries-put}
+use Rattle.host_calls.specs.HostPromises.{HostPrepare, prepareCase}
+use Rattle.host_calls.specs.Inside.{TablesPut}
+
+-- ---- the tables
+
+prepare-accepted : (m low high wi wj : ℕ) → Room m low high wi wj → prepareVerdict m low high wi wj ≡ accepted
+unfolding prepareVerdict patternVerdict tablesVerdict witnessesVerdict
+prepare-accepted m low high wi wj r =
+    let some = r .some in
+    rw (
+      ne-eqb m 0 (λ e. omega arith),
+      le-ltb patternLimit m (r .limit),
+      le-ltb low m (r .low-room),
+      le-ltb high m (r .high-room),
+      le-ltb wi m (r .witness-i-room),
+      le-ltb wj m (r .witness-j-room),
+    ) refl
+
+-- a table that was made in an array, and its front put into the host's bytes
+table-put : (v : Verdict) (f : ℕ → ℕ) (n : ℕ) (array low : List ℕ) {k : ℕ} {array' low' : List ℕ} → v ≡ accepted → array' ≡ afterVerdict v (each f n) array → k ≡ n
+    → n ≤ length low / 2 → low' ≡ entriesPut (take k array') low → low' ≡ over (bytesOf 2 (each f n)) low
+table-put v f n array low {k} {array'} a e s h p =
+    let front : take k array' ≡ each f n = ap (take k) (e ∙ ap (λ v. afterVerdict v (each f n) array) a) ∙ over-front f n array s in
+    entries-put (each f n) low (p ∙ ap (λ l. entriesPut l low) front) (rw length-each h)
+
+pub tables-put : (P : List ℤ) (lows highs is js low high wi wj : List ℕ) {lows' highs' is' js' low' high' wi' wj' : List ℕ} {r : Prepared}
+    → PreparePromise P lows highs is js r lows' highs' is' js' → Room (length P) (length low / 2) (length high / 2) (length wi / 2) (length wj / 2)
+    → Room (length P) (length lows) (length highs) (length is) (length js) → low' ≡ entriesPut (take (length P - 0) lows') low
+    → high' ≡ entriesPut (take (length P - 0) highs') high → wi' ≡ entriesPut (take (length P - 0) is') wi → wj' ≡ entriesPut (take (length P - 0) js') wj
+    → TablesPut P low high wi wj low' high' wi' wj'
+unfolding lowTable highTable witnessITable witnessJTable
+tables-put P lows highs is js low high wi wj p t arrays x y z w =
+    let s = sub-zero (length P) in
+    let a : sizesVerdict P lows highs is js ≡ accepted = prepare-accepted _ _ _ _ _ arrays in
+    record {
+      low-put = table-put _ _ _ lows low a (p .low-after) s (t .low-room) x;
+      high-put = table-put _ _ _ highs high a (p .high-after) s (t .high-room) y;
+      witness-i-put = table-put _ _ _ is wi a (p .witness-i-after) s (t .witness-i-room) z;
+      witness-j-put = table-put _ _ _ js wj a (p .witness-j-after) s (t .witness-j-room) w;
+    }
+
+-- the samples are those of the pattern's bytes
+pub samples-prepared : (pattern : List ℕ) {S : List ℤ} {low high wi wj low' high' wi' wj' : List ℕ}
+    → TablesPut S low high wi wj low' high' wi' wj' → S ≡ samplesIn pattern → TablesPut (samplesIn pattern) low high wi wj low' high' wi' wj'
+samples-prepared pattern t e = rw e at t
+
+-- ---- the call
+
+-- a trace of no samples has no window, so the rows on the trace and its buffers refuse nothing
+lengths-of-none : (m low high wi wj : ℕ) → lengthsVerdict m low high wi wj 0 0 0 ≡ prepareVerdict m low high wi wj
+unfolding lengthsVerdict prepareVerdict patternVerdict roomVerdict
+lengths-of-none zero low high wi wj = refl
+lengths-of-none (suc m) low high wi wj =
+    let none : windowsOf (suc m) 0 ≡ 0 = omega (arith, windowsOf-as (suc m) 0) in
+    rw none refl
+
+-- the verdict behind a look at the lengths
+pub fit-case : (v : Verdict) (w n : ℕ) → Fit n ≡ lengthsBy v w → (v ≡ accepted) × (n ≡ w)
+fit-case accepted w n e = (refl, cc)
+fit-case (refused why) w n e = (cc, cc)
+
+pub refused-case : (v : Verdict) (w : ℕ) (why : Refusal) → Refused why ≡ lengthsBy v w → v ≡ refused why
+refused-case accepted w why e = cc
+refused-case (refused r) w why e = cc
+
+module _ (pattern low high wi wj : List ℕ) where
+  abbrev verdict : Verdict
+  verdict = prepareCase pattern low high wi wj
+
+  abbrev Looked : Fitting → Type 0
+  Looked r = LengthsPromise (length pattern / 4) (length low / 2) (length high / 2) (length wi / 2) (length wj / 2) 0 0 0 r
+
+  by-case : {r : Fitting} → Looked r → r ≡ lengthsBy verdict (windowsOf (length pattern / 4) 0)
+  by-case p = p .answer ∙ ap (λ v. lengthsBy v (windowsOf (length pattern / 4) 0)) (lengths-of-none (length pattern / 4) (length low / 2) (length high / 2) (length wi / 2) (length wj / 2))
+
+  pub fit-room : (n : ℕ) {r : Fitting} → Looked r → r ≡ Fit n → Room (length pattern / 4) (length low / 2) (length high / 2) (length wi / 2) (length wj / 2)
+  fit-room n p e = prepare-room _ _ _ _ _ (fit-case verdict _ n (sym e ∙ by-case p) .0)
+
+  pub prepare-put : (n : ℕ) {r : Fitting} {low' high' wi' wj' : List ℕ} → Looked r → r ≡ Fit n
+      → TablesPut (samplesIn pattern) low high wi wj low' high' wi' wj'
+      → HostPrepare pattern low high wi wj 0 low' high' wi' wj'
+  prepare-put n p e t =
+      let a : verdict ≡ accepted = fit-case verdict _ n (sym e ∙ by-case p) .0 in
+      record { result = rw a refl; low-after = rw a (t .low-put); high-after = rw a (t .high-put); witness-i-after = rw a (t .witness-i-put); witness-j-after = rw a (t .witness-j-put) }
+
+  pub prepare-refused : (why : Refusal) {r : Fitting} {code : ℕ} → Looked r → r ≡ Refused why → code ≡ codedRefusal why → HostPrepare pattern low high wi wj code low high wi wj
+  prepare-refused why p e c =
+      let a : verdict ≡ refused why = refused-case verdict _ why (sym e ∙ by-case p) in
+      record { result = rw a c; low-after = rw a refl; high-after = rw a refl; witness-i-after = rw a refl; witness-j-after = rw a refl }
+
+  -- no second result, and no other byte in a table
+  pub tension-prepare-only-answer : {r s : ℕ} {low₁ high₁ wi₁ wj₁ low₂ high₂ wi₂ wj₂ : List ℕ}
+      → HostPrepare pattern low high wi wj r low₁ high₁ wi₁ wj₁ → HostPrepare pattern low high wi wj s low₂ high₂ wi₂ wj₂
+      → (r ≡ s) × (low₁ ≡ low₂) × (high₁ ≡ high₂) × (wi₁ ≡ wi₂) × (wj₁ ≡ wj₂)
+  tension-prepare-only-answer p q = (
+    p .result ∙ sym (q .result),
+    p .low-after ∙ sym (q .low-after),
+    p .high-after ∙ sym (q .high-after),
+    p .witness-i-after ∙ sym (q .witness-i-after),
+    p .witness-j-after ∙ sym (q .witness-j-after),
+  )

@@ -1,0 +1,62 @@
+-- `prepare` meets its contract: refused before anything is written, or the tables.
+-- Assumes nothing.
+use denote.Ref.{now}
+use Rattle.host_calls.proofs.PrepareLaws.{fit-room, prepare-refused, prepare-put}
+use borrow.Author.Needs.{needs}
+use Rattle.host_calls.proofs.preparing.prepare.Statement.{statement}
+use Rattle.host_calls.proofs.preparing.prepare.Tie as tie
+
+lengths-requires : tie.Need-lengths-requires
+lengths-requires c κs = search needs
+
+enum-known-why : tie.Need-enum-known-why
+enum-known-why c = search needs
+
+coded-requires : tie.Need-coded-requires
+coded-requires c κs = search needs
+
+enum-told : tie.Need-enum-told
+enum-told c = search needs
+
+prepare-fitting-requires : tie.Need-prepare-fitting-requires
+prepare-fitting-requires c κs =
+    let a = c .before .before .before .before .before .before .before .before .before .before .before .before .args in
+    fit-room (now (a .pattern)) (now (a .low)) (now (a .high)) (now (a .witness-i)) (now (a .witness-j)) _ (c .before .before .before .before .before .before .lengths .ensures) (c .before .before .before .before .enum-told .given .1)
+
+returns : tie.Need-returns
+returns c =
+    let a = c .before .before .before .before .before .before .before .before .before .before .args in
+    prepare-refused (now (a .pattern)) (now (a .low)) (now (a .high)) (now (a .witness-i)) (now (a .witness-j)) _ (c .before .before .before .before .lengths .ensures) (c .before .before .why .given .1) (c .coded .ensures)
+
+same-length : tie.Need-same-length
+same-length c = search needs
+
+same-length-2 : tie.Need-same-length-2
+same-length-2 c = search needs
+
+same-length-3 : tie.Need-same-length-3
+same-length-3 c = search needs
+
+same-length-4 : tie.Need-same-length-4
+same-length-4 c = search needs
+
+returns-2 : tie.Need-returns-2
+returns-2 c =
+    let a = c .before .before .before .before .before .before .before .before .before .before .before .before .before .before .before .before .before .before .before .before .before .args in
+    prepare-put (now (a .pattern)) (now (a .low)) (now (a .high)) (now (a .witness-i)) (now (a .witness-j)) _ (c .before .before .before .before .before .before .before .before .before .before .before .before .before .before .before .lengths .ensures) (c .before .before .before .before .before .before .before .before .before .before .before .before .before .enum-told .given .1) (c .before .before .before .before .before .before .before .before .prepare-fitting .ensures)
+
+pub prepare-spec : {M : Type 1} → statement M
+prepare-spec =
+    tie.close
+    (tie.spec
+    lengths-requires
+    enum-known-why
+    coded-requires
+    enum-told
+    prepare-fitting-requires
+    returns
+    same-length
+    same-length-2
+    same-length-3
+    same-length-4
+    returns-2)

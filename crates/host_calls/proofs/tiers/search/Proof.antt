@@ -1,0 +1,79 @@
+-- `search` meets its contract: a long trace is searched as `search_large` does, and a short one is refused before anything is written,
+-- or searched in the small arrays.
+-- Assumes nothing.
+use denote.Ref.{now}
+use Rattle.host_calls.proofs.SearchingLaws.{search-fits, search-refused}
+use borrow.Author.Needs.{needs}
+use Rattle.host_calls.proofs.tiers.search.Statement.{statement}
+use Rattle.host_calls.proofs.tiers.search.Tie as tie
+
+search-large-requires : tie.Need-search-large-requires
+search-large-requires c κs = search needs
+
+same-length : tie.Need-same-length
+same-length c = search needs
+
+same-length-2 : tie.Need-same-length-2
+same-length-2 c = search needs
+
+same-length-3 : tie.Need-same-length-3
+same-length-3 c = search needs
+
+returns : tie.Need-returns
+returns c =
+    c .before .before .before .before .before .before .search-large .ensures
+
+lengths-requires : tie.Need-lengths-requires
+lengths-requires c κs = search needs
+
+enum-known-why : tie.Need-enum-known-why
+enum-known-why c = search needs
+
+coded-requires : tie.Need-coded-requires
+coded-requires c κs = search needs
+
+enum-known-windows : tie.Need-enum-known-windows
+enum-known-windows c = search needs
+
+search-short-requires : tie.Need-search-short-requires
+search-short-requires c κs =
+    let a = c .before .before .before .before .before .before .before .before .before .before .before .before .before .before .before .before .before .args in
+    (search needs, search-fits (now (a .pattern)) (now (a .low)) (now (a .high)) (now (a .witness-i)) (now (a .witness-j)) (now (a .trace)) (now (a .survivors)) (now (a .positions)) (now (a .counts)) _ (c .before .before .before .before .before .before .lengths .ensures) (c .before .before .before .before .windows .given .1))
+
+returns-2 : tie.Need-returns-2
+returns-2 c =
+    let a = c .before .before .before .before .before .before .before .before .before .before .before .before .before .before .before .args in
+    search-refused (now (a .pattern)) (now (a .low)) (now (a .high)) (now (a .witness-i)) (now (a .witness-j)) (now (a .trace)) (now (a .survivors)) (now (a .positions)) (now (a .counts)) _ (c .before .before .before .before .lengths .ensures) (c .before .before .why .given .1) (c .coded .ensures)
+
+same-length-4 : tie.Need-same-length-4
+same-length-4 c = search needs
+
+same-length-5 : tie.Need-same-length-5
+same-length-5 c = search needs
+
+same-length-6 : tie.Need-same-length-6
+same-length-6 c = search needs
+
+returns-3 : tie.Need-returns-3
+returns-3 c =
+    c .before .before .before .before .before .before .search-short .ensures
+
+pub search-spec : {M : Type 1} → statement M
+search-spec =
+    tie.close
+    (tie.spec
+    search-large-requires
+    same-length
+    same-length-2
+    same-length-3
+    returns
+    lengths-requires
+    enum-known-why
+    coded-requires
+    enum-known-windows
+    search-short-requires
+    returns-2
+    same-length-4
+    same-length-5
+    same-length-6
+    returns-3)

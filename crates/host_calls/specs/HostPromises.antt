@@ -1,0 +1,54 @@
+-- What the two entry points promise, on the bytes themselves: the number returned, and every byte of every buffer after the
+-- call. `afterVerdict` writes over a buffer from byte 0 on if the call is accepted, and otherwise leaves it as it was.
+use Prim.Native.Nat.{ℕ, _/_}
+use mathlib.Core.Path.{_≡_}
+use mathlib.Core.List.{List}
+use lib.IntN.{ℤ}
+use lib.ListN.{length, take}
+use Rattle.order.specs.Sizes.{windowsOf}
+use Rattle.order.specs.Neighbours.{lowTable, highTable}
+use Rattle.order.specs.Witnesses.{witnessITable, witnessJTable}
+use Rattle.order.specs.Duels.{survivors}
+use Rattle.order.specs.Sweeping.{positions}
+use Rattle.order.specs.Written.{countsOf, filled}
+use Rattle.order.specs.Refusals.{Verdict, prepareVerdict, searchVerdict}
+use Rattle.order.specs.Written.{afterVerdict}
+use Rattle.wire.specs.Bytes.{samplesIn, entriesIn, bytesOf}
+use Rattle.wire.specs.Results.{coded, countsList}
+
+-- the verdict on the numbers of whole entries
+abbrev pub prepareCase : List ℕ → List ℕ → List ℕ → List ℕ → List ℕ → Verdict
+prepareCase pattern low high wi wj =
+    prepareVerdict (length pattern / 4) (length low / 2) (length high / 2) (length wi / 2) (length wj / 2)
+
+-- preparation of a pattern's bytes, with tables that hold these bytes: the result r, and the tables' bytes after it
+pub record HostPrepare (pattern low high wi wj : List ℕ) (r : ℕ) (low' high' wi' wj' : List ℕ) : Type 0 where
+  pub result : r ≡ coded (prepareCase pattern low high wi wj)
+  pub low-after : low' ≡ afterVerdict (prepareCase pattern low high wi wj) (bytesOf 2 (lowTable (samplesIn pattern))) low
+  pub high-after : high' ≡ afterVerdict (prepareCase pattern low high wi wj) (bytesOf 2 (highTable (samplesIn pattern))) high
+  pub witness-i-after : wi' ≡ afterVerdict (prepareCase pattern low high wi wj) (bytesOf 2 (witnessITable (samplesIn pattern))) wi
+  pub witness-j-after : wj' ≡ afterVerdict (prepareCase pattern low high wi wj) (bytesOf 2 (witnessJTable (samplesIn pattern))) wj
+
+-- the verdict on the entries, and on the numbers of whole entries that the two buffers have
+abbrev pub searchCase : List ℕ → List ℕ → List ℕ → List ℕ → List ℕ → List ℕ → List ℕ → List ℕ → Verdict
+searchCase pattern low high wi wj trace kept listed =
+    searchVerdict (samplesIn pattern) (entriesIn low) (entriesIn high) (entriesIn wi) (entriesIn wj) (samplesIn trace) (length kept / 4) (length listed / 4)
+
+-- the bytes that an accepted search writes: each window's entry of survivors and of positions, and as many counts as there is
+-- room for
+abbrev pub keptBytes : List ℤ → List ℤ → List ℕ
+keptBytes P T = bytesOf 4 (filled (survivors P T) (windowsOf (length P) (length T)))
+
+abbrev pub listedBytes : List ℤ → List ℤ → List ℕ
+listedBytes P T = bytesOf 4 (filled (positions P T) (windowsOf (length P) (length T)))
+
+abbrev pub countBytes : List ℤ → List ℤ → ℕ → List ℕ
+countBytes P T room = bytesOf 4 (take room (countsList (countsOf P T)))
+
+-- a search by the bytes of a pattern, its tables and a trace, with buffers that hold kept, listed and counts: the result r, and
+-- the buffers' bytes after it
+pub record HostSearch (pattern low high wi wj trace kept listed counts : List ℕ) (r : ℕ) (kept' listed' counts' : List ℕ) : Type 0 where
+  pub result : r ≡ coded (searchCase pattern low high wi wj trace kept listed)
+  pub survivors-after : kept' ≡ afterVerdict (searchCase pattern low high wi wj trace kept listed) (keptBytes (samplesIn pattern) (samplesIn trace)) kept
+  pub positions-after : listed' ≡ afterVerdict (searchCase pattern low high wi wj trace kept listed) (listedBytes (samplesIn pattern) (samplesIn trace)) listed
+  pub counts-after : counts' ≡ afterVerdict (searchCase pattern low high wi wj trace kept listed) (countBytes (samplesIn pattern) (samplesIn trace) (length counts / 4)) counts

@@ -1,0 +1,229 @@
+// A search for a C host, in two sizes of local arrays: a small call does not pay for the large ones.
+//
+// Follows docs/RULES.md, "The C entry points", "What is written" and "Refusals", numbers 1 to 7. The lengths are checked before
+// anything is converted, and the tables before anything is written, so a refused call has written no byte. An accepted one takes
+// what `search::search` does and a turn for each sample and entry. Stack: 12 KB for the pattern and its tables, and for the trace
+// and the two lists 24 KB up to 2,048 samples and 768 KB above.
+
+use crate::reading::all_samples;
+use crate::searching::search_samples;
+use tables::Fitting;
+use wire::coded;
+use wire::put_answer;
+ghost use Prim.Native.Nat.{_/_, _≤_};
+ghost use lib.ListN.{length};
+ghost use Rattle.host_calls.specs.HostPromises.{HostSearch};
+ghost use Rattle.host_calls.specs.Inside.{Fits, Arrays};
+
+// The longest trace of a small call, in samples.
+const SMALL: usize = 2048;
+
+// Searches in arrays for any trace of their size.
+fn search_in(
+    pattern: &[u8],
+    low: &[u8],
+    high: &[u8],
+    witness_i: &[u8],
+    witness_j: &[u8],
+    trace: &[u8],
+    samples: &mut [i32],
+    kept: &mut [u32],
+    listed: &mut [u32],
+    survivors: &mut [u8],
+    positions: &mut [u8],
+    counts: &mut [u8],
+    windows: usize,
+) -> u64
+    requires { ⌜ Fits (length (now pattern)) (length (now low)) (length (now high)) (length (now «witness_i»)) (length (now «witness_j»)) (length (now trace)) (length (now survivors)) (length (now positions)) windows ⌝ }
+    requires { ⌜ Arrays (length (now trace) / 4) (length (now samples)) (length (now kept)) (length (now listed)) ⌝ }
+    ensures { λ r. ⌜ HostSearch (now (pattern .entry)) (now (low .entry)) (now (high .entry)) (now («witness_i» .entry)) (now («witness_j» .entry)) (now (trace .entry)) (now (survivors .entry)) (now (positions .entry)) (now (counts .entry)) r (now (survivors .exit)) (now (positions .exit)) (now (counts .exit)) ⌝ }
+{
+    let n = trace.len() / 4;
+    all_samples(trace, samples);
+    let answer = search_samples(
+        pattern,
+        low,
+        high,
+        witness_i,
+        witness_j,
+        &samples[0..n],
+        kept,
+        listed,
+    );
+    put_answer(
+        answer,
+        &kept[0..windows],
+        &listed[0..windows],
+        survivors,
+        positions,
+        counts,
+    )
+}
+
+// Up to 2,048 samples.
+fn search_short(
+    pattern: &[u8],
+    low: &[u8],
+    high: &[u8],
+    witness_i: &[u8],
+    witness_j: &[u8],
+    trace: &[u8],
+    survivors: &mut [u8],
+    positions: &mut [u8],
+    counts: &mut [u8],
+    windows: usize,
+) -> u64
+    requires { ⌜ length (now trace) / 4 ≤ 2048 ⌝ }
+    requires { ⌜ Fits (length (now pattern)) (length (now low)) (length (now high)) (length (now «witness_i»)) (length (now «witness_j»)) (length (now trace)) (length (now survivors)) (length (now positions)) windows ⌝ }
+    ensures { λ r. ⌜ HostSearch (now (pattern .entry)) (now (low .entry)) (now (high .entry)) (now («witness_i» .entry)) (now («witness_j» .entry)) (now (trace .entry)) (now (survivors .entry)) (now (positions .entry)) (now (counts .entry)) r (now (survivors .exit)) (now (positions .exit)) (now (counts .exit)) ⌝ }
+{
+    let mut samples = [0i32; 2048];
+    let mut kept = [0u32; 2048];
+    let mut listed = [0u32; 2048];
+    search_in(
+        pattern,
+        low,
+        high,
+        witness_i,
+        witness_j,
+        trace,
+        &mut samples,
+        &mut kept,
+        &mut listed,
+        survivors,
+        positions,
+        counts,
+        windows,
+    )
+}
+
+// Up to 65,536 samples.
+fn search_long(
+    pattern: &[u8],
+    low: &[u8],
+    high: &[u8],
+    witness_i: &[u8],
+    witness_j: &[u8],
+    trace: &[u8],
+    survivors: &mut [u8],
+    positions: &mut [u8],
+    counts: &mut [u8],
+    windows: usize,
+) -> u64
+    requires { ⌜ Fits (length (now pattern)) (length (now low)) (length (now high)) (length (now «witness_i»)) (length (now «witness_j»)) (length (now trace)) (length (now survivors)) (length (now positions)) windows ⌝ }
+    ensures { λ r. ⌜ HostSearch (now (pattern .entry)) (now (low .entry)) (now (high .entry)) (now («witness_i» .entry)) (now («witness_j» .entry)) (now (trace .entry)) (now (survivors .entry)) (now (positions .entry)) (now (counts .entry)) r (now (survivors .exit)) (now (positions .exit)) (now (counts .exit)) ⌝ }
+{
+    let mut samples = [0i32; 65536];
+    let mut kept = [0u32; 65536];
+    let mut listed = [0u32; 65536];
+    search_in(
+        pattern,
+        low,
+        high,
+        witness_i,
+        witness_j,
+        trace,
+        &mut samples,
+        &mut kept,
+        &mut listed,
+        survivors,
+        positions,
+        counts,
+        windows,
+    )
+}
+
+// The search in the large arrays, whatever the trace's length.
+pub fn search_large(
+    pattern: &[u8],
+    low: &[u8],
+    high: &[u8],
+    witness_i: &[u8],
+    witness_j: &[u8],
+    trace: &[u8],
+    survivors: &mut [u8],
+    positions: &mut [u8],
+    counts: &mut [u8],
+) -> u64
+    ensures { λ r. ⌜ HostSearch (now (pattern .entry)) (now (low .entry)) (now (high .entry)) (now («witness_i» .entry)) (now («witness_j» .entry)) (now (trace .entry)) (now (survivors .entry)) (now (positions .entry)) (now (counts .entry)) r (now (survivors .exit)) (now (positions .exit)) (now (counts .exit)) ⌝ }
+{
+    let n = trace.len() / 4;
+    match tables::lengths(
+        pattern.len() / 4,
+        low.len() / 2,
+        high.len() / 2,
+        witness_i.len() / 2,
+        witness_j.len() / 2,
+        n,
+        survivors.len() / 4,
+        positions.len() / 4,
+    ) {
+        Fitting::Refused(why) => coded(why),
+        Fitting::Fit(windows) => search_long(
+            pattern,
+            low,
+            high,
+            witness_i,
+            witness_j,
+            trace,
+            survivors,
+            positions,
+            counts,
+            windows,
+        ),
+    }
+}
+
+// Searches a trace of 4-byte samples: survivors, positions and counts of 4 bytes each are written, or nothing is.
+pub fn search(
+    pattern: &[u8],
+    low: &[u8],
+    high: &[u8],
+    witness_i: &[u8],
+    witness_j: &[u8],
+    trace: &[u8],
+    survivors: &mut [u8],
+    positions: &mut [u8],
+    counts: &mut [u8],
+) -> u64
+    ensures { λ r. ⌜ HostSearch (now (pattern .entry)) (now (low .entry)) (now (high .entry)) (now («witness_i» .entry)) (now («witness_j» .entry)) (now (trace .entry)) (now (survivors .entry)) (now (positions .entry)) (now (counts .entry)) r (now (survivors .exit)) (now (positions .exit)) (now (counts .exit)) ⌝ }
+{
+    let n = trace.len() / 4;
+    if SMALL < n {
+        return search_large(
+            pattern,
+            low,
+            high,
+            witness_i,
+            witness_j,
+            trace,
+            survivors,
+            positions,
+            counts,
+        );
+    }
+    match tables::lengths(
+        pattern.len() / 4,
+        low.len() / 2,
+        high.len() / 2,
+        witness_i.len() / 2,
+        witness_j.len() / 2,
+        n,
+        survivors.len() / 4,
+        positions.len() / 4,
+    ) {
+        Fitting::Refused(why) => coded(why),
+        Fitting::Fit(windows) => search_short(
+            pattern,
+            low,
+            high,
+            witness_i,
+            witness_j,
+            trace,
+            survivors,
+            positions,
+            counts,
+            windows,
+        ),
+    }
+}

@@ -1,0 +1,30 @@
+-- `coded` meets its contract.
+-- Assumes nothing.
+use native.Mathlib.Omega.{arith}
+use Rattle.wire.proofs.Numbers.{number-small, coded-of}
+use borrow.Author.Needs.{needs}
+use Rattle.wire.proofs.results.coded.Statement.{statement}
+use Rattle.wire.proofs.results.coded.Tie as tie
+
+number-requires : tie.Need-number-requires
+number-requires c κs = search needs
+
+place-requires : tie.Need-place-requires
+place-requires c κs = search needs
+
+capped-requires : tie.Need-capped-requires
+capped-requires c κs = search needs
+
+mul-result : tie.Need-mul-result
+mul-result c = omega (arith, number-small (c .before .before .before .args .why))
+
+add-result : tie.Need-add-result
+add-result c = omega (arith, number-small (c .before .before .before .args .why))
+
+returns : tie.Need-returns
+returns c = coded-of _ (c .before .before .number .ensures) (c .before .place .ensures) (c .capped .ensures)
+
+pub coded-spec : {M : Type 1} → statement M
+coded-spec =
+    tie.close
+    (tie.spec number-requires place-requires capped-requires mul-result add-result returns)
