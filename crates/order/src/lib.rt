@@ -5,11 +5,11 @@
 
 mod kinds;
 mod limits;
+mod numbers;
 mod place_test;
 mod refusal;
 mod relation;
 mod steps;
-mod widths;
 mod words;
 
 pub use kinds::Offset;
@@ -19,6 +19,9 @@ pub use limits::NONE;
 pub use limits::PATTERN_LIMIT;
 pub use limits::TRACE_LIMIT;
 pub use limits::UNUSED;
+pub use numbers::smaller;
+pub use numbers::wide16;
+pub use numbers::wide32;
 pub use place_test::test_place;
 pub use refusal::Refusal;
 pub use refusal::Table;
@@ -28,7 +31,5 @@ pub use relation::same;
 pub use steps::Counts;
 pub use steps::Meeting;
 pub use steps::Tested;
-pub use widths::wide16;
-pub use widths::wide32;
 pub use words::from_bits;
 pub use words::word_of;

@@ -8,20 +8,15 @@ use crate::checks::check_prepare;
 use crate::preparation::write_tables;
 use order::PATTERN_LIMIT;
 use order::Refusal;
+use order::smaller;
 ghost use mathlib.Core.Path.{_≡_};
-ghost use Prim.Native.Nat.{_≤_, min};
+ghost use Prim.Native.Nat.{_≤_};
 ghost use lib.ListN.{length};
 ghost use Rattle.order.specs.Sizes.{patternLimit, lowest};
 ghost use Rattle.order.specs.Refusals.{ownVerdict, foreignAt};
 ghost use Rattle.tables.specs.Answers.{checkedBy};
 ghost use Rattle.tables.specs.Asked.{Room, FirstDifference, FirstForeign};
 ghost use Rattle.tables.specs.Promises.{TablesPromise};
-
-fn smaller(a: usize, b: usize) -> usize
-    ensures { λ r. ⌜ r ≡ min a b ⌝ }
-{
-    if a < b { a } else { b }
-}
 
 // The lowest entry below m at which two tables differ, or m.
 fn first_difference(table: &[u16], own: &[u16], m: usize) -> usize

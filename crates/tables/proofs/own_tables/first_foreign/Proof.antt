@@ -8,7 +8,7 @@ use Rattle.tables.proofs.own_tables.first_foreign.Tie as tie
 use Rattle.tables.proofs.own_tables.first_foreign.Reads as reads
 use Rattle.tables.proofs.own_tables.first_foreign.Lts as lts
 use Rattle.tables.proofs.own_tables.first_difference.Reads as first-difference-reads
-use Rattle.tables.proofs.own_tables.smaller.Reads as smaller-reads
+use Rattle.order.proofs.smaller.Reads as smaller-reads
 use Rattle.tables.proofs.preparation.write_tables.Reads as write-tables-reads
 
 -- src/own_tables.rt:47:27
