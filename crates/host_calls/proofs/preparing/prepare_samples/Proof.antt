@@ -86,7 +86,7 @@ returns c =
     let s = c .before .before .before .before .before .before .before .before .before .before .before .before .before .before .before .before .before .before .before .before .before .before .before .before .before .before .before .before .before .before .before .before .before .before .before .before .before in
     let a = s .args in
     tables-put (now (a .pattern)) _ _ _ _ (now (a .low)) (now (a .high)) (now (a .witness-i)) (now (a .witness-j)) (c .before .before .before .before .before .before .before .before .before .before .before .before .before .before .before .before .before .before .before .before .before .before .before .before .before .before .before .before .prepare .ensures)
-    (s .pre) (search needs) (c .before .before .before .before .before .before .before .before .before .before .before .before .before .before .before .before .before .before .before .before .put-entries .ensures) (c .before .before .before .before .before .before .before .before .before .before .before .before .before .before .put-entries2 .ensures) (c .before .before .before .before .before .before .before .before .put-entries3 .ensures) (c .before .before .put-entries4 .ensures)
+    (s .pre) (let l = s .pre .limit in record { some = s .pre .some; limit = l; low-room = l; high-room = l; witness-i-room = l; witness-j-room = l }) (c .before .before .before .before .before .before .before .before .before .before .before .before .before .before .before .before .before .before .before .before .put-entries .ensures) (c .before .before .before .before .before .before .before .before .before .before .before .before .before .before .put-entries2 .ensures) (c .before .before .before .before .before .before .before .before .put-entries3 .ensures) (c .before .before .put-entries4 .ensures)
 
 pub prepare-samples-spec : {M : Type 1} → statement M
 prepare-samples-spec =

@@ -11,25 +11,25 @@ slice-aggregate-front : tie.Need-slice-aggregate-front
 slice-aggregate-front c = search needs
 
 front-requires : tie.Need-front-requires
-front-requires c κs = search needs
+front-requires c κs = let r = c .before .before .before .before .before .before .before .pre in (r .limit, r .low-room)
 
 slice-aggregate-front-2 : tie.Need-slice-aggregate-front-2
 slice-aggregate-front-2 c = search needs
 
 front-requires-2 : tie.Need-front-requires-2
-front-requires-2 c κs = search needs
+front-requires-2 c κs = let r = c .before .before .before .before .before .before .before .before .before .before .pre in (r .limit, r .high-room)
 
 slice-aggregate-front-3 : tie.Need-slice-aggregate-front-3
 slice-aggregate-front-3 c = search needs
 
 front-requires-3 : tie.Need-front-requires-3
-front-requires-3 c κs = search needs
+front-requires-3 c κs = let r = c .before .before .before .before .before .before .before .before .before .before .before .before .before .pre in (r .limit, r .witness-i-room)
 
 slice-aggregate-front-4 : tie.Need-slice-aggregate-front-4
 slice-aggregate-front-4 c = search needs
 
 front-requires-4 : tie.Need-front-requires-4
-front-requires-4 c κs = search needs
+front-requires-4 c κs = let r = c .before .before .before .before .before .before .before .before .before .before .before .before .before .before .before .before .pre in (r .limit, r .witness-j-room)
 
 sub-search : tie.Need-sub-search
 sub-search c = search needs
