@@ -1,40 +1,39 @@
 -- Shows: a search by the fronts of the host's tables is one by the whole tables; lengths that fit give what the search asks, and
 -- others the search's refusal; so what the call leaves meets its promise, which no second result or byte satisfies.
 -- Assumes nothing.
-use Prim.Native.Nat.{ℕ, zero, suc, _+_, _*_, _-_, _/_, _≤_, _<_}
-use mathlib.Core.Path.{_≡_, refl, sym, _∙_, ap, ap₂, subst}
+use Prim.Native.Nat.{ℕ, zero, suc, _+_, _-_, _/_, _≤_, _<_}
+use mathlib.Core.Path.{_≡_, refl, sym, _∙_, ap, ap₂}
 use mathlib.Core.List.{List, _++_}
 use mathlib.Core.Bool.{Bool, true, false, cond}
 use native.Mathlib.Omega.{arith}
 use native.Mathlib.Nat.{sub-zero}
 use lib.Dec.{eqb, ltb}
 use lib.IntN.{ℤ}
-use lib.ListN.{length, getD, take, drop, length-append, length-replicate, replicate}
+use lib.ListN.{length, getD, take, drop, length-append, length-replicate}
 use lib.Seq.{take-at, length-take-le}
 use borrow.Author.Tests.{ne-eqb, le-ltb}
 use Rattle.order.specs.declared.refusal.Table.the-variants.{Low, High, WitnessI, WitnessJ}
 use Rattle.order.specs.declared.refusal.Refusal.{Refusal}
 use Rattle.order.specs.declared.refusal.Refusal.the-variants.{EmptyPattern, LongPattern, ShortTable, LongTrace, ShortSurvivors, ShortPositions}
 use Rattle.order.specs.declared.steps.Counts.{Counts}
-use Rattle.order.specs.Sizes.{Spot, none, place, lowest, orElse, each, unused, patternLimit, traceLimit, windowsOf}
-use Rattle.order.specs.Refusals.{Verdict, accepted, refused, refuse, patternVerdict, witnessesVerdict, tablesVerdict, roomVerdict, prepareVerdict, ownVerdict, foreignAt, searchVerdict}
+use Rattle.order.specs.Sizes.{none, place, lowest, orElse, patternLimit, traceLimit, windowsOf}
+use Rattle.order.specs.Refusals.{Verdict, accepted, refused, refuse, patternVerdict, witnessesVerdict, tablesVerdict, roomVerdict, ownVerdict, foreignAt, searchVerdict}
 use Rattle.order.specs.Duels.{survivors as kept-windows}
 use Rattle.order.specs.Sweeping.{positions as listed-windows}
-use Rattle.order.specs.Written.{countsOf, over, filled}
+use Rattle.order.specs.Written.{over, filled}
 use Rattle.order.proofs.Lists.{length-each, getD-each, windowsOf-as}
 use Rattle.order.proofs.Dueling.{duels-and-survivors}
 use Rattle.search.specs.declared.answers.Searched.{Searched}
-use Rattle.search.specs.declared.answers.Searched.the-variants.{Done, Refused}
 use Rattle.tables.specs.declared.fitting_lengths.Fitting.{Fitting}
 use Rattle.tables.specs.declared.fitting_lengths.Fitting.the-variants.{Fit, Refused as Unfit}
 use Rattle.order.specs.Written.{afterVerdict}
 use Rattle.tables.specs.Asked.{Room}
 use Rattle.search.specs.SearchPromise.{SearchPromise, searchedBy}
-use Rattle.tables.specs.Lengths.{lengthsVerdict, lengthsBy, LengthsPromise}
+use Rattle.tables.specs.Lengths.{lengthsVerdict, LengthsPromise}
 use Rattle.tables.proofs.Verdicts.{pattern-passed, tables-passed}
 use Rattle.tables.proofs.Verdicts.{room-passed}
 use Rattle.search.proofs.WrittenOut.{positions-few}
-use Rattle.wire.specs.Bytes.{short, firstSamples, firstEntries, samplesIn, entriesIn, bytesOf}
+use Rattle.wire.specs.Bytes.{firstEntries, samplesIn, entriesIn, bytesOf}
 use Rattle.wire.specs.Results.{coded, codedRefusal, countsList}
 use Rattle.wire.specs.Handed.{entriesTaken, wordsPut, AnswerPut}
 use Rattle.wire.proofs.Handing.{entries-taken, words-put}
