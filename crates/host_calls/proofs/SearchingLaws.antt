@@ -1,7 +1,7 @@
 -- Shows: a search by the fronts of the host's tables is one by the whole tables; lengths that fit give what the search asks, and
 -- others the search's refusal; so what the call leaves meets its promise, which no second result or byte satisfies.
 -- Assumes nothing.
-use Prim.Native.Nat.{ℕ, zero, suc, _+_, _-_, _/_, _≤_, _<_}
+use Prim.Native.Nat.{ℕ, zero, suc, _-_, _/_, _≤_, _<_}
 use mathlib.Core.Path.{_≡_, refl, sym, _∙_, ap, ap₂}
 use mathlib.Core.List.{List, _++_}
 use mathlib.Core.Bool.{Bool, true, false, cond}

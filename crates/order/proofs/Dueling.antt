@@ -2,22 +2,19 @@
 -- agreement passes along a chain: no window of the set is struck; the survivors ascend, are entrants, and any two agree; the
 -- duels and the survivors together are at most as many as the entrants. Then the same of the rules' own duels.
 -- Assumes nothing beyond the record `Fair`.
-use Prim.Native.Nat.{ℕ, zero, suc, _+_, _-_, _≤_, _<_}
+use Prim.Native.Nat.{ℕ, zero, suc, _+_, _≤_, _<_}
 use mathlib.Core.Path.{_≡_, refl, sym, _∙_, ap, ap₂, subst}
 use mathlib.Core.Logic.{⊎-elim}
-use mathlib.Core.List.{List, [], _∷_, _++_, reverse, append-assoc, append-nil, List·Memᴰ, List·Memᴰ·head, List·Memᴰ·tail, List·Memᴰ·cases-cons, List·Memᴰ·not-nil, List·Memᴰ·append-cases, List·Memᴰ·eq-of-singleton}
-use mathlib.Core.Bool.{Bool, true, false, cond, _&&_}
+use mathlib.Core.List.{List, [], _∷_, _++_, reverse, append-nil, List·Memᴰ, List·Memᴰ·head, List·Memᴰ·tail, List·Memᴰ·cases-cons, List·Memᴰ·not-nil, List·Memᴰ·append-cases, List·Memᴰ·eq-of-singleton}
+use mathlib.Core.Bool.{Bool, true, false, cond}
 use native.Mathlib.Omega.{arith}
-use native.Mathlib.Numerals.{add-one}
 use lib.IntN.{ℤ}
 use lib.ListN.{length, length-append, length-reverse}
 use Rattle.order.specs.declared.steps.Meeting.{Meeting}
 use Rattle.order.specs.declared.steps.Meeting.the-variants.{Agree, OlderFalls, NewerFalls, BothFall}
 use Rattle.order.specs.Sizes.{those, windowsOf}
-use Rattle.order.specs.Isomorphic.{Iso}
-use Rattle.order.specs.Equivalence.{SelfAgree}
 use Rattle.order.specs.Duels.{meets, Stack, stacked, after, arrive, arriveAll, entrants, duelled, duels, survivors}
-use Rattle.order.proofs.Lists.{passing, passing-append, passing-one, passing-none, passing-top, passing-top-none, reverse-cons, mem-reverse, those-suc, mem-those, length-all}
+use Rattle.order.proofs.Lists.{passing, passing-append, passing-none, passing-top, passing-top-none, reverse-cons, mem-reverse, length-all}
 use Rattle.order.proofs.Equivalences.{chain-windows}
 use Rattle.order.proofs.Isomorphisms.{iso-inherits}
 use Rattle.order.proofs.Meetings.{occurs, Told, Agrees, meets-fate}

@@ -1,8 +1,8 @@
 -- Shows: for every equivalence of lists that parts inherit, agreement passes along a chain of windows, and what was shown of
 -- a window holds of a later one that agrees with it, as far as it reaches. Distances of the pattern's length or more count.
 -- Assumes nothing beyond the record `PartsInherit`.
-use Prim.Native.Nat.{ℕ, _+_, _-_, _≤_, _<_}
-use mathlib.Core.Path.{_≡_, refl, sym, _∙_, ap, subst, subst₂}
+use Prim.Native.Nat.{ℕ, _+_, _-_, _≤_}
+use mathlib.Core.Path.{_≡_, sym, _∙_, ap, subst, subst₂}
 use mathlib.Core.List.{List, []}
 use native.Mathlib.Omega.{arith}
 use native.Mathlib.Nat.{add-comm}

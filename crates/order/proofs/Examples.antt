@@ -1,15 +1,14 @@
 -- Shows: the worked examples a to j of docs/RULES.md come out of the definitions, and with them the call on two windows and a level run, which has the
 -- rightmost of several equals as each place's neighbour. One list, one claim, by computation.
 -- Assumes nothing.
-use Prim.Native.Nat.{ℕ, _+_, _-_, _<_, max}
+use Prim.Native.Nat.{ℕ}
 use mathlib.Core.Path.{_≡_, refl}
-use mathlib.Core.List.{List, [], _∷_, _++_, map, reverse}
-use mathlib.Core.Bool.{Bool, true, false, not, cond, _&&_, _||_, Bool·beq}
-use lib.Dec.{leb, ltb, eqb}
+use mathlib.Core.List.{List, [], _∷_, map}
+use mathlib.Core.Bool.{Bool, true, false, _&&_, Bool·beq}
+use lib.Dec.{eqb}
 use lib.IntN.{ℤ, pos, negsuc}
-use lib.ListN.{length, getD, take, drop, replicate}
-use lib.Signed.{leZ}
-use Rattle.order.specs.Sizes.{none, place, entry, windowsOf, each, those, lowest, orElse}
+use lib.ListN.{length}
+use Rattle.order.specs.Sizes.{entry, windowsOf, each, those, lowest, orElse}
 use Rattle.order.specs.Relations.{rel}
 use Rattle.order.specs.Isomorphic.{allBelow, isIso}
 use Rattle.order.specs.Neighbours.{nearer, nearest, lowOf, highOf, lowTable, highTable}

@@ -1,15 +1,15 @@
 -- Shows: order isomorphism is an equivalence that parts inherit; it is Chhabra's u_i ≤ u_j ⇔ v_i ≤ v_j (2016); and `isIso`
 -- computes it.
 -- Assumes nothing.
-use Prim.Native.Nat.{ℕ, zero, suc, _+_, _-_, _≤_, _<_, min}
+use Prim.Native.Nat.{ℕ, zero, suc, _+_, _-_, _<_, min}
 use mathlib.Core.Path.{_≡_, refl, sym, _∙_, ap, ap₂, subst}
 use mathlib.Core.Logic.{_↔_}
-use mathlib.Core.List.{List, []}
-use mathlib.Core.Bool.{Bool, true, false, _&&_, Bool·beq}
+use mathlib.Core.List.{List}
+use mathlib.Core.Bool.{Bool, true, false, Bool·beq}
 use native.Mathlib.Omega.{arith}
 use lib.Dec.{eqb, T}
 use lib.IntN.{ℤ, pos}
-use lib.ListN.{length, getD, take, drop, length-take, length-drop}
+use lib.ListN.{length, take, drop, length-take, length-drop}
 use lib.Seq.{getD-take, getD-drop}
 use lib.Signed.{leZ, _≤ℤ_}
 use borrow.Author.Tests.{eqb-true, eq-eqb}

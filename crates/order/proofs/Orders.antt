@@ -1,18 +1,18 @@
 -- Shows: samples are totally ordered by `leZ`; the three-way relation of two samples is told by the two tests `leZ a b` and
 -- `leZ b a`, and so by the machine's `<`; two pairs of samples compare alike exactly if both tests are alike.
 -- Assumes nothing.
-use mathlib.Core.Path.{_≡_, refl, sym, _∙_, ap, subst}
+use mathlib.Core.Path.{_≡_, refl, sym, _∙_, ap}
 use mathlib.Core.Bool.{Bool, true, false, not, cond}
 use Prim.Native.Nat.{ℕ, _≤_, _<_}
 use native.Mathlib.Omega.{arith}
 use lib.Dec.{leb, ltb}
 use lib.IntN.{ℤ, pos, negsuc}
 use lib.Signed.{leZ, ltZ}
-use borrow.Author.Tests.{leb-true, leb-false, ltb-true, ltb-false, le-leb, lt-leb, lt-ltb, le-ltb}
+use borrow.Author.Tests.{leb-true, leb-false, le-leb, lt-ltb, le-ltb}
 use Rattle.order.specs.declared.relation.Relation.{Relation}
 use Rattle.order.specs.declared.relation.Relation.the-variants.{Less, Equal, Greater}
 use Rattle.order.specs.Relations.{rel, alike}
-use Rattle.order.proofs.Tests.{clash, same-test, must-fail}
+use Rattle.order.proofs.Tests.{clash}
 
 -- "below" is "not at least"
 ltb-not-leb : (a b : ℕ) → ltb a b ≡ not (leb b a)

@@ -7,7 +7,6 @@ use mathlib.Core.Path.{_≡_, refl, sym, _∙_, ap, ap₂, subst}
 use mathlib.Core.List.{List}
 use mathlib.Core.Bool.{Bool, true, false, cond}
 use native.Mathlib.Omega.{arith}
-use lib.Dec.{eqb}
 use lib.IntN.{ℤ, pos}
 use lib.ListN.{length, take}
 use lib.Seq.{getD-take, length-take-le}
@@ -16,14 +15,14 @@ use borrow.Author.Tests.{eqb-true}
 use Rattle.order.specs.declared.steps.Tested.{Tested}
 use Rattle.order.specs.declared.steps.Tested.the-variants.{Passed, Failed}
 use Rattle.order.specs.Sizes.{Spot, none, place, at}
-use Rattle.order.specs.Relations.{rel, alike}
+use Rattle.order.specs.Relations.{rel}
 use Rattle.order.specs.Isomorphic.{Iso}
 use Rattle.order.specs.Neighbours.{nearest, lowOf, highOf}
 use Rattle.order.specs.PlaceTest.{matches, sameSpot, against, thenHigh, testOf, passes, cost, failedAt}
 use Rattle.order.proofs.Tests.{clash, same-test}
 use Rattle.order.proofs.Orders.{alike-same, alike-refl, same-tests-alike, alike-tests, leZ-refl}
 use Rattle.order.proofs.Lists.{below-suc}
-use Rattle.order.proofs.Nearest.{Ordering, upward, flipped, turned, Near, Neighbour, nearest-is, low-is, high-is}
+use Rattle.order.proofs.Nearest.{Ordering, upward, flipped, turned, Neighbour, low-is, high-is}
 
 -- ---- a test by its neighbours
 

@@ -4,19 +4,18 @@
 -- 2(n + S), the passes are at most n, failed and listed together are S, and the list is the survivors that occur.
 -- Assumes nothing beyond the records `Carries` and `Tallies`.
 use Prim.Native.Nat.{ℕ, zero, suc, _+_, _-_, _*_, _≤_, _<_, max}
-use mathlib.Core.Path.{_≡_, refl, sym, _∙_, ap, ap₂, subst}
-use mathlib.Core.List.{List, [], _∷_, _++_, append-assoc, append-nil, List·Memᴰ, List·Memᴰ·head, List·Memᴰ·tail, List·Memᴰ·not-nil}
+use mathlib.Core.Path.{_≡_, refl, sym, _∙_, ap, subst}
+use mathlib.Core.List.{List, [], _∷_, _++_, append-assoc, append-nil, List·Memᴰ, List·Memᴰ·head, List·Memᴰ·tail}
 use mathlib.Core.Bool.{Bool, true, false, cond}
 use native.Mathlib.Omega.{arith}
-use native.Mathlib.Numerals.{add-one}
 use lib.IntN.{ℤ}
-use lib.ListN.{length, take, drop, length-append, length-take, length-drop}
+use lib.ListN.{length, take, drop, length-append, length-drop}
 use lib.Seq.{take-all}
 use Rattle.order.specs.declared.steps.Tested.{Tested}
 use Rattle.order.specs.declared.steps.Tested.the-variants.{Passed, Failed}
-use Rattle.order.specs.Sizes.{windowsOf, window}
+use Rattle.order.specs.Sizes.{window}
 use Rattle.order.specs.Isomorphic.{Iso}
-use Rattle.order.specs.PlaceTest.{testOf, passes, cost}
+use Rattle.order.specs.PlaceTest.{passes, cost}
 use Rattle.order.specs.Duels.{survivors}
 use Rattle.order.specs.Sweeping.{Swept, swept, Weight, onPass, onFail, onTest, tests, sweepOne, sweepAll, testsOf, sweptBy, sweepCost, positions}
 use Rattle.order.proofs.Tests.{clash, must-fail}

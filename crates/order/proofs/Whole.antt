@@ -1,11 +1,11 @@
 -- Shows: the demands on every search, of the definitions: the list is exactly the windows isomorphic with the pattern, no such
 -- window is struck, any two survivors agree, D + S ≤ N, W ≤ 2(n + S).
 -- Assumes nothing.
-use Prim.Native.Nat.{ℕ, zero, suc, _-_, _<_}
+use Prim.Native.Nat.{ℕ, zero, suc, _<_}
 use mathlib.Core.Path.{_≡_, refl, sym, _∙_, ap, subst}
-use mathlib.Core.Logic.{_↔_, _⊎_, inl, inr, ⊎-elim}
-use mathlib.Core.List.{List, [], _∷_, _++_, List·Memᴰ, List·Memᴰ·head, List·Memᴰ·tail, List·Memᴰ·cases-cons, List·Memᴰ·not-nil}
-use mathlib.Core.Bool.{Bool, true, false, cond}
+use mathlib.Core.Logic.{_↔_, _⊎_, inl, inr}
+use mathlib.Core.List.{List, [], _∷_, _++_, List·Memᴰ, List·Memᴰ·cases-cons, List·Memᴰ·not-nil}
+use mathlib.Core.Bool.{Bool, true}
 use native.Mathlib.Omega.{arith}
 use lib.IntN.{ℤ}
 use lib.ListN.{length}
@@ -15,7 +15,7 @@ use Rattle.order.specs.Duels.{entrants, survivors}
 use Rattle.order.specs.Sweeping.{positions}
 use Rattle.order.specs.Written.{countsOf, occurrences}
 use Rattle.order.specs.Demands.{Demands}
-use Rattle.order.proofs.Lists.{passing, passing-append, passing-one, those-suc, mem-those, those-mem, mem-passing, Ascending}
+use Rattle.order.proofs.Lists.{passing, passing-append, passing-one, mem-those, those-mem, mem-passing, Ascending}
 use Rattle.order.proofs.Isomorphisms.{iso-computed, computed-iso}
 use Rattle.order.proofs.Meetings.{occurs, Agrees}
 use Rattle.order.proofs.Dueling.{Agreeing, survivors-agreeing, survivors-unstruck, duels-and-survivors}

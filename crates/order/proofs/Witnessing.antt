@@ -2,7 +2,7 @@
 -- witness (i, j) at offset a has i < j and a + j < m, and the pattern compares differently at (i, j) and at
 -- (a + i, a + j). Offset 0 has none.
 -- Assumes nothing.
-use Prim.Native.Nat.{ℕ, zero, _+_, _-_, _≤_, _<_}
+use Prim.Native.Nat.{ℕ, _+_, _-_, _<_}
 use mathlib.Core.Path.{_≡_, refl, sym, _∙_, ap, ap₂, subst}
 use mathlib.Core.List.{List}
 use mathlib.Core.Bool.{Bool, true, false, not, _||_, or-true}
@@ -11,9 +11,8 @@ use native.Mathlib.Omega.{arith}
 use lib.IntN.{ℤ, pos}
 use lib.ListN.{length, take, drop, length-drop}
 use lib.Seq.{getD-drop, take-all}
-use lib.Signed.{leZ}
 use borrow.Author.Tests.{not-true, not-false, leb-true}
-use Rattle.order.specs.Sizes.{Spot, none, place, at, lowest}
+use Rattle.order.specs.Sizes.{Spot, none, place, at}
 use Rattle.order.specs.Relations.{rel}
 use Rattle.order.specs.Isomorphic.{Iso}
 use Rattle.order.specs.Equivalence.{SelfAgree}

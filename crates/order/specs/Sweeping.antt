@@ -1,7 +1,6 @@
 -- "Sweep": the survivors are tested place by place, in ascending order and never twice at one sample of the trace.
 use Prim.Native.Nat.{ℕ, zero, suc, _+_, _-_, max}
 use mathlib.Core.List.{List, [], _∷_, _++_}
-use mathlib.Core.Bool.{Bool, true, false, cond}
 use lib.IntN.{ℤ}
 use lib.ListN.{length, drop}
 use Rattle.order.specs.declared.steps.Tested.{Tested}

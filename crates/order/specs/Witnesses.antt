@@ -1,7 +1,7 @@
 -- "Witness at an offset": the first place at which the pattern, laid over itself a places on, fails its own tests.
 use Prim.Native.Nat.{ℕ, _-_}
 use mathlib.Core.List.{List}
-use mathlib.Core.Bool.{Bool, true, false, not}
+use mathlib.Core.Bool.{not}
 use lib.IntN.{ℤ}
 use lib.ListN.{length, drop}
 use Rattle.order.specs.Sizes.{Spot, none, place, each, entry, lowest}

@@ -1,7 +1,6 @@
 -- "Counts" and "What is written": the counts of an accepted search, and what each call leaves in a buffer.
 use Prim.Native.Nat.{ℕ, _-_}
 use mathlib.Core.List.{List, _++_}
-use mathlib.Core.Bool.{Bool}
 use lib.IntN.{ℤ}
 use lib.ListN.{length, drop, replicate}
 use Rattle.order.specs.declared.steps.Counts.{Counts}

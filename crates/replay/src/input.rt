@@ -2,7 +2,6 @@
 // Follows reference/README.md, "The stream of cases". A step for each byte.
 
 ghost use Prim.Native.Nat.{_≤_, _<_};
-ghost use lib.ListN.{length};
 
 pub(crate) fn smaller(a: usize, b: usize) -> usize
     ensures { λ r. ⌜ (r ≤ a) × (r ≤ b) ⌝ }

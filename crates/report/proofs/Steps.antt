@@ -1,6 +1,6 @@
 -- Shows: after each step of the program, what is left of its text: the line of the refusal, or what the next step prints.
 -- Assumes nothing.
-use Prim.Native.Nat.{ℕ, _+_, _-_, _≤_, _<_}
+use Prim.Native.Nat.{ℕ, _-_, _≤_, _<_}
 use mathlib.Core.Path.{_≡_, refl, sym, _∙_, ap, ap₂}
 use mathlib.Core.List.{List, _++_}
 use native.Mathlib.Omega.{arith}
@@ -13,7 +13,6 @@ use Rattle.order.specs.declared.refusal.Refusal.{Refusal}
 use Rattle.order.specs.declared.refusal.Refusal.the-variants.{LongInput}
 use Rattle.order.specs.Neighbours.{lowTable, highTable}
 use Rattle.order.specs.Witnesses.{witnessITable, witnessJTable}
-use Rattle.order.specs.Sweeping.{positions}
 use Rattle.order.specs.Written.{countsOf, over}
 use Rattle.order.specs.Recordings.{sampleCount, firstSample, samplesOf}
 use Rattle.order.specs.Refusals.{Verdict, accepted, refused, prepareVerdict, searchVerdict, readVerdict}

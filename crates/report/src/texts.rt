@@ -2,7 +2,6 @@
 // leaves every other byte as it was. Follows docs/RULES.md, "The program". A byte takes one step; a number of d digits takes d calls.
 
 use order::wide32;
-ghost use mathlib.Core.Path.{_≡_};
 ghost use mathlib.Core.List.{_∷_, [], _++_};
 ghost use Prim.Native.Nat.{_+_, _≤_, _<_};
 ghost use lib.ListN.{length};

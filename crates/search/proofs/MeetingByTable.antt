@@ -2,8 +2,7 @@
 -- far apart or the first entry is none, and otherwise duel by a witness that lies inside the pattern.
 -- Assumes nothing beyond the record `OwnWitnesses`.
 use Prim.Native.Nat.{ℕ, _+_, _-_, _≤_, _<_}
-use mathlib.Core.Path.{_≡_, refl, sym, _∙_, ap, ap₂, subst}
-use mathlib.Core.Logic.{_⊎_, inl, inr, ⊎-elim}
+use mathlib.Core.Path.{_≡_, refl, sym, _∙_, ap₂}
 use mathlib.Core.List.{List}
 use mathlib.Core.Bool.{Bool, true, false, cond, _||_}
 use native.Mathlib.Omega.{arith}
@@ -13,7 +12,7 @@ use lib.ListN.{length, getD}
 use borrow.Author.Tests.{le-leb, lt-leb}
 use Rattle.order.specs.declared.relation.Relation.{Relation}
 use Rattle.order.specs.declared.steps.Meeting.{Meeting}
-use Rattle.order.specs.declared.steps.Meeting.the-variants.{Agree, OlderFalls, NewerFalls, BothFall}
+use Rattle.order.specs.declared.steps.Meeting.the-variants.{Agree, NewerFalls}
 use Rattle.order.specs.Sizes.{Spot, none, place, at, entry, noPlace, patternLimit}
 use Rattle.order.specs.Relations.{rel, alike}
 use Rattle.order.specs.Witnesses.{witnessI, witnessJ}
@@ -21,7 +20,7 @@ use Rattle.order.specs.Agree.{distance, isNone, agree}
 use Rattle.order.specs.Duels.{fallen, duel, byWitness, meets}
 use Rattle.order.proofs.Tests.{must-fail}
 use Rattle.order.proofs.Orders.{alike-same}
-use Rattle.order.proofs.Witnessing.{Witnessed, witness-is, none-together}
+use Rattle.order.proofs.Witnessing.{witness-is, none-together}
 use Rattle.search.specs.Asked.{OwnWitnesses, Duelable}
 
 -- the duel, from what was seen of the trace and of the pattern

@@ -1,10 +1,10 @@
 -- Shows: an accepted search has all that its work asks; what the work leaves meets the search's promise, the demands on the answer
 -- among it; and no second answer, nor other content of a buffer, satisfies the promise.
 -- Assumes nothing.
-use Prim.Native.Nat.{ℕ, _+_, _-_, _≤_, _<_}
-use mathlib.Core.Path.{_≡_, refl, sym, _∙_, ap, ap₂, subst, subst₂, subst₃}
-use mathlib.Core.List.{List, _++_}
-use mathlib.Core.Bool.{Bool, true, false, not, _||_}
+use Prim.Native.Nat.{ℕ, _≤_, _<_}
+use mathlib.Core.Path.{_≡_, refl, sym, _∙_, ap, subst, subst₃}
+use mathlib.Core.List.{List}
+use mathlib.Core.Bool.{Bool, false, not, _||_}
 use native.Mathlib.Omega.{arith}
 use lib.Dec.{eqb}
 use lib.IntN.{ℤ}
@@ -12,27 +12,24 @@ use lib.ListN.{length, getD, take}
 use lib.Seq.{take-at}
 use Rattle.order.specs.declared.refusal.Refusal.{Refusal}
 use Rattle.order.specs.declared.steps.Counts.{Counts}
-use Rattle.order.specs.Sizes.{Spot, none, place, entry, lowest, patternLimit, traceLimit, windowsOf}
+use Rattle.order.specs.Sizes.{Spot, none, place, entry, lowest, windowsOf}
 use Rattle.order.specs.Neighbours.{lowOf, highOf}
 use Rattle.order.specs.Witnesses.{witnessI, witnessJ}
 use Rattle.order.specs.Duels.{survivors}
 use Rattle.order.specs.Sweeping.{positions}
 use Rattle.order.specs.Written.{countsOf, over, filled}
 use Rattle.order.specs.Demands.{Demands}
-use Rattle.order.specs.Refusals.{Verdict, accepted, refused, refuse, roomVerdict, ownVerdict, foreignAt, patternVerdict, tablesVerdict, searchVerdict}
-use Rattle.order.proofs.Tests.{clash, or-neither-first, or-neither-second}
+use Rattle.order.specs.Refusals.{Verdict, accepted, ownVerdict, foreignAt, searchVerdict}
+use Rattle.order.proofs.Tests.{or-neither-first, or-neither-second}
 use Rattle.order.proofs.Lists.{Finds, lowest-finds}
 use Rattle.order.proofs.Dueling.{duels-and-survivors}
 use Rattle.order.proofs.Whole.{demands-hold}
 use Rattle.tables.specs.declared.fitting_lengths.Fitting.the-variants.{Fit, Refused as Unfit}
 use Rattle.search.specs.declared.answers.Searched.{Searched}
 use Rattle.search.specs.declared.answers.Searched.the-variants.{Done, Refused as NotSearched}
-use Rattle.order.specs.Refusals.{verdictNumber, verdictPlace}
-use Rattle.order.specs.Written.{afterVerdict}
 use Rattle.tables.specs.Lengths.{lengthsBy}
-use Rattle.tables.specs.Asked.{OwnNeighbours}
-use Rattle.search.specs.Asked.{OwnWitnesses, Searchable, SearchedOf}
-use Rattle.search.specs.SearchPromise.{SearchPromise, searchedNumber, searchedPlace, searchedBy}
+use Rattle.search.specs.Asked.{Searchable, SearchedOf}
+use Rattle.search.specs.SearchPromise.{SearchPromise}
 use Rattle.tables.proofs.Verdicts.{pattern-passed, tables-passed, room-passed}
 use Rattle.tables.proofs.ForeignEntries.{passes-same}
 use Rattle.search.proofs.SearchVerdicts.{fits, unfit}

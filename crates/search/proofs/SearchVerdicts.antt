@@ -2,7 +2,7 @@
 -- refused alike, and where they fit it comes to what the check of the tables comes to.
 -- Assumes nothing.
 use mathlib.Core.Path.{_≡_, refl, sym, _∙_, ap}
-use mathlib.Core.Logic.{_⊎_, inl, inr}
+use mathlib.Core.Logic.{inl, inr}
 use mathlib.Core.List.{List}
 use Prim.Native.Nat.{ℕ}
 use native.Mathlib.Omega.{arith}
@@ -10,12 +10,11 @@ use lib.IntN.{ℤ}
 use lib.ListN.{length}
 use Rattle.order.specs.declared.refusal.Refusal.{Refusal}
 use Rattle.order.specs.Sizes.{lowest, windowsOf}
-use Rattle.order.specs.Refusals.{Verdict, accepted, refused, patternVerdict, tablesVerdict, roomVerdict, ownVerdict, foreignAt, searchVerdict}
+use Rattle.order.specs.Refusals.{Verdict, accepted, refused, roomVerdict, ownVerdict, foreignAt, searchVerdict}
 use Rattle.tables.specs.declared.answers.Checked.{Checked}
 use Rattle.tables.specs.declared.answers.Checked.the-variants.{Fine, Refused}
 use Rattle.tables.specs.declared.fitting_lengths.Fitting.{Fitting}
 use Rattle.tables.specs.declared.fitting_lengths.Fitting.the-variants.{Fit, Refused as Unfit}
-use Rattle.tables.specs.Answers.{checkedBy}
 use Rattle.tables.specs.Lengths.{lengthsVerdict, lengthsBy, LengthsPromise}
 use Rattle.tables.specs.Promises.{TablesPromise, ownTablesVerdict}
 use Rattle.tables.proofs.Verdicts.{fine-accepted, refused-why}

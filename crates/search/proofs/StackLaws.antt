@@ -5,7 +5,7 @@ use Prim.Native.Nat.{ℕ, zero, suc, _+_, _-_, _≤_, _<_}
 use mathlib.Core.Path.{_≡_, refl, sym, _∙_, ap, ap₂, subst}
 use mathlib.Core.Logic.{⊎-elim}
 use mathlib.Core.List.{List, [], _∷_, _++_, reverse, List·Memᴰ, List·Memᴰ·head, List·Memᴰ·tail}
-use mathlib.Core.Bool.{Bool, true, false}
+use mathlib.Core.Bool.{true}
 use native.Mathlib.Omega.{arith}
 use native.Mathlib.Numerals.{add-one}
 use native.Mathlib.Nat.{eq-or-lt-of-le, le-of-suc-le-suc}
@@ -16,7 +16,7 @@ use Rattle.order.specs.declared.steps.Meeting.{Meeting}
 use Rattle.order.specs.declared.steps.Meeting.the-variants.{Agree, OlderFalls, NewerFalls, BothFall}
 use Rattle.order.specs.Sizes.{those, windowsOf}
 use Rattle.order.specs.Duels.{meets, Stack, stacked, after, arrive, arriveAll, entrants, duelled}
-use Rattle.order.proofs.Lists.{reverse-cons, those-suc, length-all, windowsOf-as}
+use Rattle.order.proofs.Lists.{reverse-cons, those-suc, windowsOf-as}
 use Rattle.order.proofs.Dueling.{rules-fair, ended, arrive-append}
 use Rattle.search.specs.declared.duels.Arrival.{Arrival}
 use Rattle.search.specs.declared.duels.Arrival.the-variants.{Pushed, Dropped}

@@ -1,24 +1,22 @@
 -- Shows: a buffer whose first entries are a list, filled with "unused" up to the number of windows, is what the rules write;
 -- so the duels and the sweep leave the rules' buffers, and a search that was checked meets its promise.
 -- Assumes nothing.
-use Prim.Native.Nat.{ℕ, _+_, _-_, _*_, _≤_, _<_}
+use Prim.Native.Nat.{ℕ, _+_, _-_, _≤_}
 use mathlib.Core.Path.{_≡_, refl, sym, _∙_, ap, ap₂, subst}
-use mathlib.Core.List.{List, [], _∷_, _++_, reverse, append-assoc}
+use mathlib.Core.List.{List, _++_, reverse, append-assoc}
 use native.Mathlib.Omega.{arith}
 use lib.IntN.{ℤ}
-use lib.ListN.{length, getD, take, drop, replicate, length-append, length-replicate, length-reverse}
+use lib.ListN.{length, take, drop, replicate, length-append, length-replicate, length-reverse}
 use lib.Seq.{take-at, length-take-le, drop-drop}
-use Rattle.order.specs.declared.steps.Counts.{Counts}
 use Rattle.order.specs.Sizes.{unused, windowsOf}
-use Rattle.order.specs.Duels.{Stack, stacked, duelled, duels, survivors}
-use Rattle.order.specs.Sweeping.{sweepCost, positions}
+use Rattle.order.specs.Duels.{Stack, duelled, duels, survivors}
+use Rattle.order.specs.Sweeping.{positions}
 use Rattle.order.specs.Written.{countsOf, over, filled}
 use Rattle.order.proofs.Dueling.{duels-and-survivors}
 use Rattle.order.proofs.SweepLaws.{sweep-fails, sweep-lists-same}
-use Rattle.search.specs.Stacks.{top, DuelsOf}
+use Rattle.search.specs.Stacks.{DuelsOf}
 use Rattle.search.specs.Sweeps.{SweepOf}
-use Rattle.tables.specs.Asked.{OwnNeighbours}
-use Rattle.search.specs.Asked.{Duels, Sweeps, Listable, SurvivorsOf, PositionsOf, Searchable, SearchedOf}
+use Rattle.search.specs.Asked.{SurvivorsOf, PositionsOf, SearchedOf}
 use Rattle.search.proofs.StackLaws.{length-top, reverse-top}
 
 -- the list, then "unused" up to entry n − 1, then the old content

@@ -11,8 +11,8 @@ use order::test_place;
 use order::wide32;
 ghost use mathlib.Core.Path.{_≡_};
 ghost use mathlib.Core.Bool.{cond};
-ghost use Prim.Native.Nat.{ℕ, _+_, _<_, _≤_, max};
-ghost use lib.ListN.{length, drop, set};
+ghost use Prim.Native.Nat.{_+_, _<_, max};
+ghost use lib.ListN.{length, set};
 ghost use Rattle.search.specs.Asked.{Sweepable, Sweeps};
 ghost use Rattle.search.specs.Sweeps.{SweptOne, SweepOf};
 

@@ -1,19 +1,10 @@
 -- `windows` is safe and ends: one entry a turn.
 -- Assumes nothing.
-use Prim.Native.Nat.{_≤_, _<_, _-_, _+_}
-use mathlib.Core.Path.{_≡_, refl, sym, _∙_, ap}
-use mathlib.Core.Logic.{⊎-elim}
-use native.Mathlib.Omega.{arith}
-use lib.ListN.{length, length-set}
+use Prim.Native.Nat.{_-_}
+use lib.ListN.{length}
 use borrow.Author.Needs.{needs}
 use Rattle.examples.proofs.windows.Statement.{statement}
 use Rattle.examples.proofs.windows.Tie as tie
-use Rattle.examples.proofs.windows.Reads as reads
-use Rattle.examples.proofs.windows.Lts as lts
-use Rattle.examples.proofs.end_line.Reads as end-line-reads
-use Rattle.examples.proofs.number.Reads as number-reads
-use Rattle.examples.proofs.wide32.Reads as wide32-reads
-use Rattle.examples.proofs.word.Reads as word-reads
 
 abbrev Inv-loop : tie.InvT-loop
 Inv-loop name list count k₀ k = Unit {0}
@@ -21,55 +12,42 @@ Inv-loop name list count k₀ k = Unit {0}
 abbrev μ-loop : tie.MeasureT-loop
 μ-loop name list count k₀ k = length list - k
 
--- src/main.rt:42:5
 word-requires : tie.Need-word-requires Inv-loop μ-loop
 word-requires c κs = search needs
 
--- src/main.rt:44:5
 loop-holds : tie.Need-loop-holds Inv-loop μ-loop
 loop-holds c = search needs
 
--- src/main.rt:46:13
 end-line-requires : tie.Need-end-line-requires Inv-loop μ-loop
 end-line-requires c κs = search needs
 
--- src/main.rt:47:13
 returns : tie.Need-returns Inv-loop μ-loop
 returns c = search needs
 
--- src/main.rt:49:23
 mul-wide32 : tie.Need-mul-wide32 Inv-loop μ-loop
 mul-wide32 c = search needs
 
--- src/main.rt:49:23
 shared-slice-read-wide32 : tie.Need-shared-slice-read-wide32 Inv-loop μ-loop
 shared-slice-read-wide32 c = search needs
 
--- src/main.rt:49:16
 wide32-requires : tie.Need-wide32-requires Inv-loop μ-loop
 wide32-requires c κs = search needs
 
--- src/main.rt:49:9
 number-requires : tie.Need-number-requires Inv-loop μ-loop
 number-requires c κs = search needs
 
--- src/main.rt:50:9
 add-k : tie.Need-add-k Inv-loop μ-loop
 add-k c = search needs
 
--- src/main.rt:44:5
 loop-less : tie.Need-loop-less Inv-loop μ-loop
 loop-less c = search needs
 
--- src/main.rt:44:5
 loop-again : tie.Need-loop-again Inv-loop μ-loop
 loop-again c = search needs
 
--- src/main.rt:52:5
 end-line-requires-2 : tie.Need-end-line-requires-2 Inv-loop μ-loop
 end-line-requires-2 c κs = search needs
 
--- src/main.rt:41:1
 returns-2 : tie.Need-returns-2 Inv-loop μ-loop
 returns-2 c = search needs
 

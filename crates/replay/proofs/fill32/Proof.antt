@@ -1,15 +1,11 @@
 -- `fill32` is safe and ends: one entry a turn.
 -- Assumes nothing.
-use Prim.Native.Nat.{_≤_, _<_, _-_, _+_}
-use mathlib.Core.Path.{_≡_, refl, sym, _∙_, ap}
-use mathlib.Core.Logic.{⊎-elim}
-use native.Mathlib.Omega.{arith}
-use lib.ListN.{length, length-set}
+use Prim.Native.Nat.{_-_}
+use mathlib.Core.Path.{_≡_}
+use lib.ListN.{length}
 use borrow.Author.Needs.{needs}
 use Rattle.replay.proofs.fill32.Statement.{statement}
 use Rattle.replay.proofs.fill32.Tie as tie
-use Rattle.replay.proofs.fill32.Reads as reads
-use Rattle.replay.proofs.fill32.Lts as lts
 
 abbrev Inv-loop : tie.InvT-loop
 Inv-loop list₀ value k₀ list k = length list ≡ length list₀
@@ -17,35 +13,27 @@ Inv-loop list₀ value k₀ list k = length list ≡ length list₀
 abbrev μ-loop : tie.MeasureT-loop
 μ-loop list₀ value k₀ list k = length list₀ - k
 
--- src/main.rt:41:5
 loop-holds : tie.Need-loop-holds Inv-loop μ-loop
 loop-holds c = search needs
 
--- src/main.rt:42:9
 mul-list : tie.Need-mul-list Inv-loop μ-loop
 mul-list c = search needs
 
--- src/main.rt:42:9
 slice-write-list : tie.Need-slice-write-list Inv-loop μ-loop
 slice-write-list c = search needs
 
--- src/main.rt:43:9
 add-k : tie.Need-add-k Inv-loop μ-loop
 add-k c = search needs
 
--- src/main.rt:41:5
 loop-less : tie.Need-loop-less Inv-loop μ-loop
 loop-less c = search needs
 
--- src/main.rt:41:5
 loop-again : tie.Need-loop-again Inv-loop μ-loop
 loop-again c = search needs
 
--- src/main.rt:39:1
 same-length : tie.Need-same-length Inv-loop μ-loop
 same-length c = search needs
 
--- src/main.rt:39:1
 returns : tie.Need-returns Inv-loop μ-loop
 returns c = search needs
 

@@ -1,15 +1,10 @@
 -- `guarded` is safe and ends: one byte a turn.
 -- Assumes nothing.
-use Prim.Native.Nat.{_≤_, _<_, _-_, _+_}
-use mathlib.Core.Path.{_≡_, refl, sym, _∙_, ap}
-use mathlib.Core.Logic.{⊎-elim}
-use native.Mathlib.Omega.{arith}
-use lib.ListN.{length, length-set}
+use Prim.Native.Nat.{_-_}
+use lib.ListN.{length}
 use borrow.Author.Needs.{needs}
 use Rattle.replay.proofs.guarded.Statement.{statement}
 use Rattle.replay.proofs.guarded.Tie as tie
-use Rattle.replay.proofs.guarded.Reads as reads
-use Rattle.replay.proofs.guarded.Lts as lts
 
 abbrev Inv-loop : tie.InvT-loop
 Inv-loop list from k₀ k = Unit {0}
@@ -17,31 +12,24 @@ Inv-loop list from k₀ k = Unit {0}
 abbrev μ-loop : tie.MeasureT-loop
 μ-loop list from k₀ k = length list - k
 
--- src/main.rt:348:5
 loop-holds : tie.Need-loop-holds Inv-loop μ-loop
 loop-holds c = search needs
 
--- src/main.rt:349:12
 shared-slice-read-if1 : tie.Need-shared-slice-read-if1 Inv-loop μ-loop
 shared-slice-read-if1 c = search needs
 
--- src/main.rt:350:13
 returns : tie.Need-returns Inv-loop μ-loop
 returns c = search needs
 
--- src/main.rt:352:9
 add-k : tie.Need-add-k Inv-loop μ-loop
 add-k c = search needs
 
--- src/main.rt:348:5
 loop-less : tie.Need-loop-less Inv-loop μ-loop
 loop-less c = search needs
 
--- src/main.rt:348:5
 loop-again : tie.Need-loop-again Inv-loop μ-loop
 loop-again c = search needs
 
--- src/main.rt:346:1
 returns-2 : tie.Need-returns-2 Inv-loop μ-loop
 returns-2 c = search needs
 

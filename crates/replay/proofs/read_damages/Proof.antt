@@ -1,17 +1,11 @@
 -- `read_damages` is safe and ends: one change a turn.
 -- Assumes nothing.
-use Prim.Native.Nat.{_≤_, _<_, _-_, _+_}
-use mathlib.Core.Path.{_≡_, refl, sym, _∙_, ap}
-use mathlib.Core.Logic.{⊎-elim}
-use native.Mathlib.Omega.{arith}
-use lib.ListN.{length, length-set}
+use Prim.Native.Nat.{_<_, _-_}
+use mathlib.Core.Path.{_≡_}
+use lib.ListN.{length}
 use borrow.Author.Needs.{needs}
 use Rattle.replay.proofs.read_damages.Statement.{statement}
 use Rattle.replay.proofs.read_damages.Tie as tie
-use Rattle.replay.proofs.read_damages.Reads as reads
-use Rattle.replay.proofs.read_damages.Lts as lts
-use Rattle.replay.proofs.damage.Reads as damage-reads
-use Rattle.replay.proofs.input.read_number.Reads as read-number-reads
 
 abbrev Inv-loop : tie.InvT-loop
 Inv-loop low₀ high₀ witness-i₀ witness-j₀ count k₀ low high witness-i witness-j k = (length low ≡ length low₀) × (length high ≡ length high₀) × (length witness-i ≡ length witness-i₀) × (length witness-j ≡ length witness-j₀) × (count < 4294967296)
@@ -19,75 +13,57 @@ Inv-loop low₀ high₀ witness-i₀ witness-j₀ count k₀ low high witness-i 
 abbrev μ-loop : tie.MeasureT-loop
 μ-loop low₀ high₀ witness-i₀ witness-j₀ count k₀ low high witness-i witness-j k = count - k
 
--- src/main.rt:110:9
 read-number-requires : tie.Need-read-number-requires Inv-loop μ-loop
 read-number-requires c κs = search needs
 
--- src/main.rt:112:5
 loop-holds : tie.Need-loop-holds Inv-loop μ-loop
 loop-holds c = search needs
 
--- src/main.rt:113:13
 read-number-requires-2 : tie.Need-read-number-requires-2 Inv-loop μ-loop
 read-number-requires-2 c κs = search needs
 
--- src/main.rt:114:13
 read-number-requires-3 : tie.Need-read-number-requires-3 Inv-loop μ-loop
 read-number-requires-3 c κs = search needs
 
--- src/main.rt:115:22
 read-number-requires-4 : tie.Need-read-number-requires-4 Inv-loop μ-loop
 read-number-requires-4 c κs = search needs
 
--- src/main.rt:115:21
 cast-value : tie.Need-cast-value Inv-loop μ-loop
 cast-value c = search needs
 
--- src/main.rt:116:9
 damage-requires : tie.Need-damage-requires Inv-loop μ-loop
 damage-requires c κs = search needs
 
--- src/main.rt:117:9
 damage-requires-2 : tie.Need-damage-requires-2 Inv-loop μ-loop
 damage-requires-2 c κs = search needs
 
--- src/main.rt:118:9
 damage-requires-3 : tie.Need-damage-requires-3 Inv-loop μ-loop
 damage-requires-3 c κs = search needs
 
--- src/main.rt:119:9
 damage-requires-4 : tie.Need-damage-requires-4 Inv-loop μ-loop
 damage-requires-4 c κs = search needs
 
--- src/main.rt:120:9
 add-k : tie.Need-add-k Inv-loop μ-loop
 add-k c = search needs
 
--- src/main.rt:112:5
 loop-less : tie.Need-loop-less Inv-loop μ-loop
 loop-less c = search needs
 
--- src/main.rt:112:5
 loop-again : tie.Need-loop-again Inv-loop μ-loop
 loop-again c = search needs
 
--- src/main.rt:109:1
 same-length : tie.Need-same-length Inv-loop μ-loop
 same-length c = search needs
 
--- src/main.rt:109:1
 same-length-2 : tie.Need-same-length-2 Inv-loop μ-loop
 same-length-2 c = search needs
 
--- src/main.rt:109:1
 same-length-3 : tie.Need-same-length-3 Inv-loop μ-loop
 same-length-3 c = search needs
 
--- src/main.rt:109:1
 same-length-4 : tie.Need-same-length-4 Inv-loop μ-loop
 same-length-4 c = search needs
 
--- src/main.rt:109:1
 returns : tie.Need-returns Inv-loop μ-loop
 returns c = search needs
 

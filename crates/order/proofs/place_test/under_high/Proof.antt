@@ -1,7 +1,6 @@
 -- `under_high` meets its contract.
 -- Assumes nothing.
 use mathlib.Core.Bool.{true, false}
-use denote.Ref.{now}
 use Rattle.order.proofs.EntrySteps.{no-high, high-told}
 use borrow.Author.Needs.{needs}
 use Rattle.order.proofs.place_test.under_high.Statement.{statement}

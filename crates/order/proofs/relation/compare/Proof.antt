@@ -1,7 +1,7 @@
 -- `compare` meets its contract: the machine's tests on the samples' bits are the tests on their values.
 -- Assumes nothing.
 use mathlib.Core.Path.{_≡_, ap₂, _∙_, sym}
-use mathlib.Core.Bool.{Bool, true, false}
+use mathlib.Core.Bool.{Bool}
 use lib.IntN.{ℤ}
 use lib.Signed.{ltZ}
 use mir.Syntax.{w32}

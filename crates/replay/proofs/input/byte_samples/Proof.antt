@@ -1,16 +1,11 @@
 -- `byte_samples` is safe and ends: one sample a turn.
 -- Assumes nothing.
-use Prim.Native.Nat.{_≤_, _<_, _-_, _+_}
-use mathlib.Core.Path.{_≡_, refl, sym, _∙_, ap}
-use mathlib.Core.Logic.{⊎-elim}
-use native.Mathlib.Omega.{arith}
-use lib.ListN.{length, length-set}
+use Prim.Native.Nat.{_-_}
+use mathlib.Core.Path.{_≡_}
+use lib.ListN.{length}
 use borrow.Author.Needs.{needs}
 use Rattle.replay.proofs.input.byte_samples.Statement.{statement}
 use Rattle.replay.proofs.input.byte_samples.Tie as tie
-use Rattle.replay.proofs.input.byte_samples.Reads as reads
-use Rattle.replay.proofs.input.byte_samples.Lts as lts
-use Rattle.replay.proofs.input.signed8.Reads as signed8-reads
 
 abbrev Inv-loop : tie.InvT-loop
 Inv-loop samples₀ bytes k₀ samples k = length samples ≡ length samples₀
@@ -18,51 +13,39 @@ Inv-loop samples₀ bytes k₀ samples k = length samples ≡ length samples₀
 abbrev μ-loop : tie.MeasureT-loop
 μ-loop samples₀ bytes k₀ samples k = length samples₀ - k
 
--- src/input.rt:65:5
 loop-holds : tie.Need-loop-holds Inv-loop μ-loop
 loop-holds c = search needs
 
--- src/input.rt:67:13
 same-length : tie.Need-same-length Inv-loop μ-loop
 same-length c = search needs
 
--- src/input.rt:67:13
 returns : tie.Need-returns Inv-loop μ-loop
 returns c = search needs
 
--- src/input.rt:69:30
 shared-slice-read-signed8 : tie.Need-shared-slice-read-signed8 Inv-loop μ-loop
 shared-slice-read-signed8 c = search needs
 
--- src/input.rt:69:22
 signed8-requires : tie.Need-signed8-requires Inv-loop μ-loop
 signed8-requires c κs = search needs
 
--- src/input.rt:69:9
 mul-t4 : tie.Need-mul-t4 Inv-loop μ-loop
 mul-t4 c = search needs
 
--- src/input.rt:69:9
 slice-set-from-samples : tie.Need-slice-set-from-samples Inv-loop μ-loop
 slice-set-from-samples c = search needs
 
--- src/input.rt:70:9
 add-k : tie.Need-add-k Inv-loop μ-loop
 add-k c = search needs
 
--- src/input.rt:65:5
 loop-less : tie.Need-loop-less Inv-loop μ-loop
 loop-less c = search needs
 
--- src/input.rt:65:5
 loop-again : tie.Need-loop-again Inv-loop μ-loop
 loop-again c = search needs
 
--- src/input.rt:63:1
 same-length-2 : tie.Need-same-length-2 Inv-loop μ-loop
 same-length-2 c = search needs
 
--- src/input.rt:63:1
 returns-2 : tie.Need-returns-2 Inv-loop μ-loop
 returns-2 c = search needs
 

@@ -1,21 +1,11 @@
 -- `put_table` is safe and ends: one entry a turn.
 -- Assumes nothing.
-use Prim.Native.Nat.{_≤_, _<_, _-_, _+_}
-use mathlib.Core.Path.{_≡_, refl, sym, _∙_, ap}
-use mathlib.Core.Logic.{⊎-elim}
-use native.Mathlib.Omega.{arith}
-use lib.ListN.{length, length-set}
+use Prim.Native.Nat.{_≤_, _-_}
+use mathlib.Core.Path.{_≡_}
+use lib.ListN.{length}
 use borrow.Author.Needs.{needs}
 use Rattle.replay.proofs.output.put_table.Statement.{statement}
 use Rattle.replay.proofs.output.put_table.Tie as tie
-use Rattle.replay.proofs.output.put_table.Reads as reads
-use Rattle.replay.proofs.output.put_table.Lts as lts
-use Rattle.replay.proofs.output.longer.Reads as longer-reads
-use Rattle.replay.proofs.output.put_byte.Reads as put-byte-reads
-use Rattle.replay.proofs.output.put_entry.Reads as put-entry-reads
-use Rattle.replay.proofs.output.put_run.Reads as put-run-reads
-use Rattle.replay.proofs.output.put_text.Reads as put-text-reads
-use Rattle.order.proofs.wide16.Reads as wide16-reads
 
 abbrev Inv-loop : tie.InvT-loop
 Inv-loop out₀ at name table next₀ run₀ k₀ out next run k = (length out ≡ length out₀) × (run ≤ k)
@@ -23,67 +13,51 @@ Inv-loop out₀ at name table next₀ run₀ k₀ out next run k = (length out �
 abbrev μ-loop : tie.MeasureT-loop
 μ-loop out₀ at name table next₀ run₀ k₀ out next run k = length table - k
 
--- src/output.rt:77:9
 put-text-requires : tie.Need-put-text-requires Inv-loop μ-loop
 put-text-requires c κs = search needs
 
--- src/output.rt:80:5
 loop-holds : tie.Need-loop-holds Inv-loop μ-loop
 loop-holds c = search needs
 
--- src/output.rt:81:21
 mul-guard : tie.Need-mul-guard Inv-loop μ-loop
 mul-guard c = search needs
 
--- src/output.rt:81:21
 shared-slice-read-guard : tie.Need-shared-slice-read-guard Inv-loop μ-loop
 shared-slice-read-guard c = search needs
 
--- src/output.rt:82:62
 mul-wide16 : tie.Need-mul-wide16 Inv-loop μ-loop
 mul-wide16 c = search needs
 
--- src/output.rt:82:62
 shared-slice-read-wide16 : tie.Need-shared-slice-read-wide16 Inv-loop μ-loop
 shared-slice-read-wide16 c = search needs
 
--- src/output.rt:82:55
 wide16-requires : tie.Need-wide16-requires Inv-loop μ-loop
 wide16-requires c κs = search needs
 
--- src/output.rt:82:9
 put-entry-requires : tie.Need-put-entry-requires Inv-loop μ-loop
 put-entry-requires c κs = search needs
 
--- src/output.rt:83:9
 longer-requires : tie.Need-longer-requires Inv-loop μ-loop
 longer-requires c κs = search needs
 
--- src/output.rt:84:9
 add-k : tie.Need-add-k Inv-loop μ-loop
 add-k c = search needs
 
--- src/output.rt:80:5
 loop-less : tie.Need-loop-less Inv-loop μ-loop
 loop-less c = search needs
 
--- src/output.rt:80:5
 loop-again : tie.Need-loop-again Inv-loop μ-loop
 loop-again c = search needs
 
--- src/output.rt:86:5
 put-run-requires : tie.Need-put-run-requires Inv-loop μ-loop
 put-run-requires c κs = search needs
 
--- src/output.rt:87:5
 put-byte-requires : tie.Need-put-byte-requires Inv-loop μ-loop
 put-byte-requires c κs = search needs
 
--- src/output.rt:76:1
 same-length : tie.Need-same-length Inv-loop μ-loop
 same-length c = search needs
 
--- src/output.rt:76:1
 returns : tie.Need-returns Inv-loop μ-loop
 returns c = search needs
 

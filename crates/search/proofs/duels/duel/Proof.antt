@@ -6,60 +6,44 @@ use Rattle.search.proofs.MeetingByTable.{older-stands, older-falls}
 use borrow.Author.Needs.{needs}
 use Rattle.search.proofs.duels.duel.Statement.{statement}
 use Rattle.search.proofs.duels.duel.Tie as tie
-use Rattle.search.proofs.duels.duel.Reads as reads
-use Rattle.search.proofs.duels.duel.Lts as lts
-use Rattle.order.proofs.same.Reads as same-reads
-use Rattle.search.proofs.duels.compare_at.Reads as compare-at-reads
 
--- src/duels.rt:54:34
 add-compare-at : tie.Need-add-compare-at
 add-compare-at c = search needs
 
--- src/duels.rt:54:41
 add-compare-at-2 : tie.Need-add-compare-at-2
 add-compare-at-2 c = search needs
 
--- src/duels.rt:54:9
 compare-at-requires : tie.Need-compare-at-requires
 compare-at-requires c κs = search needs
 
--- src/duels.rt:55:46
 add-compare-at-3 : tie.Need-add-compare-at-3
 add-compare-at-3 c = search needs
 
--- src/duels.rt:55:53
 add-compare-at-4 : tie.Need-add-compare-at-4
 add-compare-at-4 c = search needs
 
--- src/duels.rt:55:26
 compare-at-requires-2 : tie.Need-compare-at-requires-2
 compare-at-requires-2 c κs = search needs
 
--- src/duels.rt:55:8
 same-requires : tie.Need-same-requires
 same-requires c κs = search needs
 
--- src/duels.rt:56:9
 returns : tie.Need-returns
 returns c =
     older-stands (c .before .before .before .before .pre) (c .before .before .before .compare-at .ensures) (c .before .before .compare-at2 .ensures) (c .before .same .ensures) (c .if1 .taken)
 
--- src/duels.rt:58:26
 compare-at-requires-3 : tie.Need-compare-at-requires-3
 compare-at-requires-3 c κs = search needs
 
--- src/duels.rt:58:8
 same-requires-2 : tie.Need-same-requires-2
 same-requires-2 c κs = search needs
 
--- src/duels.rt:59:9
 returns-2 : tie.Need-returns-2
 unfolding fallen
 returns-2 c =
     older-falls (c .before .before .before .before .before .before .before .pre) (c .before .before .before .before .before .before .compare-at .ensures) (c .before .before .before .before .before .compare-at2 .ensures) (c .before .before .before .before .same .ensures) true
     (c .before .before .compare-at3 .ensures) (c .before .before .before .if1 .left) (c .before .same2 .ensures) (c .if2 .taken)
 
--- src/duels.rt:46:1
 returns-3 : tie.Need-returns-3
 unfolding fallen
 returns-3 c =

@@ -1,20 +1,15 @@
 -- `duel_all` meets its contract: the survivors buffer is the rules' stack, window by window and look by look.
 -- Assumes nothing.
-use Prim.Native.Nat.{_<_, _≤_, _-_, _+_}
-use mathlib.Core.Path.{_≡_, refl, sym, _∙_, ap, subst}
+use Prim.Native.Nat.{_<_, _≤_, _-_}
+use mathlib.Core.Path.{sym, _∙_}
 use mathlib.Core.Logic.{⊎-elim}
 use native.Mathlib.Omega.{arith}
 use denote.Ref.{now}
-use lib.ListN.{length, getD, set}
-use borrow.Author.Tests.{eqb-false}
+use lib.ListN.{length}
 use Rattle.search.proofs.StackLaws.{Looking, Settled, Standing, at-first, looking, kept-below, settle-empty, settle-agree, settle-newer, settle-both, look-again, dropped-next, pushed-next, all-arrived, settled-as, few, inside}
 use borrow.Author.Needs.{needs}
 use Rattle.search.proofs.duels.duel_all.Statement.{statement}
 use Rattle.search.proofs.duels.duel_all.Tie as tie
-use Rattle.search.proofs.duels.duel_all.Reads as reads
-use Rattle.search.proofs.duels.duel_all.Lts as lts
-use Rattle.search.proofs.duels.meet.Reads as meet-reads
-use Rattle.order.proofs.wide32.Reads as wide32-reads
 
 abbrev Inv-loop : tie.InvT-loop
 Inv-loop pattern witness-i witness-j trace windows survivors kept₀ fought₀ y arriving kept fought =

@@ -1,21 +1,14 @@
 -- `meet` meets its contract: the entries of the pattern's own witness tables tell whether the windows agree, and who duels.
 -- Assumes nothing.
-use Prim.Native.Nat.{_<_, _-_, _+_}
-use mathlib.Core.Path.{_≡_, sym, _∙_, ap₂, subst, subst₂}
+use Prim.Native.Nat.{_-_}
+use mathlib.Core.Path.{_≡_, sym, _∙_}
 use native.Mathlib.Omega.{arith}
 use denote.Ref.{now}
-use lib.ListN.{length, getD}
-use Rattle.order.specs.Duels.{meets, duel as duelOf}
-use Rattle.search.specs.Asked.{Duelable}
+use lib.ListN.{getD}
 use Rattle.search.proofs.MeetingByTable.{Entries, Facing, far-agree, by-offset, none-agrees, some-duels, duelable, meeting-told, apart}
 use borrow.Author.Needs.{needs}
 use Rattle.search.proofs.duels.meet.Statement.{statement}
 use Rattle.search.proofs.duels.meet.Tie as tie
-use Rattle.search.proofs.duels.meet.Reads as reads
-use Rattle.search.proofs.duels.meet.Lts as lts
-use Rattle.order.proofs.kinds.Offset.between.Reads as between-reads
-use Rattle.search.proofs.duels.duel.Reads as duel-reads
-use Rattle.order.proofs.wide16.Reads as wide16-reads
 
 -- the offset is the windows' distance
 offset-is : (c : tie.After-between) → c .between .result .0 ≡ c .before .before .before .args .y .0 - c .before .before .before .args .x .0
@@ -33,45 +26,35 @@ facing : (c : tie.Else2) → Facing (now (c .before .before .before .before .bef
     (getD (now (c .before .before .before .before .before .before .args .witness-i)) (c .before .before .before .between .result .0) 0) (getD (now (c .before .before .before .before .before .before .args .witness-j)) (c .before .before .before .between .result .0) 0)
 facing c = some-duels (faced (c .before .before)) (c .if2 .left)
 
--- src/duels.rt:86:9
 between-requires : tie.Need-between-requires
 between-requires c κs = search needs
 
--- src/duels.rt:89:9
 returns : tie.Need-returns
 returns c =
     let s = c .before .before .before .before in
     sym (far-agree (now (s .args .pattern)) (now (s .args .trace)) (s .args .x .0) (s .args .y .0) (omega (arith, offset-is (c .before), c .if1 .taken)))
 
--- src/duels.rt:91:13
 mul-i : tie.Need-mul-i
 mul-i c = search needs
 
--- src/duels.rt:91:13
 shared-slice-read-i : tie.Need-shared-slice-read-i
 shared-slice-read-i c = search needs
 
--- src/duels.rt:93:9
 returns-2 : tie.Need-returns-2
 returns-2 c = none-agrees (c .before .before .before .before .before .before .pre .own .limit) (faced (c .before .before)) (c .if2 .taken)
 
--- src/duels.rt:95:13
 mul-j : tie.Need-mul-j
 mul-j c = search needs
 
--- src/duels.rt:95:13
 shared-slice-read-j : tie.Need-shared-slice-read-j
 shared-slice-read-j c = search needs
 
--- src/duels.rt:96:42
 wide16-requires : tie.Need-wide16-requires
 wide16-requires c κs = search needs
 
--- src/duels.rt:96:58
 wide16-requires-2 : tie.Need-wide16-requires-2
 wide16-requires-2 c κs = search needs
 
--- src/duels.rt:96:5
 duel-requires : tie.Need-duel-requires
 duel-requires c κs =
     duelable (facing (c .before .before .before)) (offset-is (c .before .before .before .before .before .before))

@@ -5,16 +5,10 @@ use Rattle.search.proofs.WrittenOut.{positions-out}
 use borrow.Author.Needs.{needs}
 use Rattle.search.proofs.searching.list_positions.Statement.{statement}
 use Rattle.search.proofs.searching.list_positions.Tie as tie
-use Rattle.search.proofs.searching.list_positions.Reads as reads
-use Rattle.search.proofs.searching.list_positions.Lts as lts
-use Rattle.search.proofs.sweep.sweep_all.Reads as sweep-all-reads
-use Rattle.search.proofs.unused_entries.fill_unused.Reads as fill-unused-reads
 
--- src/searching.rt:101:9
 sweep-all-requires : tie.Need-sweep-all-requires
 sweep-all-requires c κs = search needs
 
--- src/searching.rt:103:5
 fill-unused-requires : tie.Need-fill-unused-requires
 fill-unused-requires c κs =
     let p = c .before .before .before .before .before .before .before .before .before .pre in
@@ -25,11 +19,9 @@ fill-unused-requires c κs =
     let f = d .few in
     omega arith
 
--- src/searching.rt:97:1
 same-length : tie.Need-same-length
 same-length c = search needs
 
--- src/searching.rt:97:1
 returns : tie.Need-returns
 returns c = let p = c .before .before .before .before .before .before .before .before .before .before .before .before .pre in positions-out (c .before .before .before .before .before .before .sweep-all .ensures) (p .number) (p .room) (p .few) (c .before .before .fill-unused .ensures)
 

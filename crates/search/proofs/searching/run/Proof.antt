@@ -1,6 +1,5 @@
 -- `run` meets its contract: the duels' and the sweep's parts together.
 -- Assumes nothing.
-use mathlib.Core.Path.{_≡_, sym, _∙_}
 use native.Mathlib.Omega.{arith}
 use denote.Ref.{now}
 use lib.ListN.{length}

@@ -1,6 +1,6 @@
 -- `search` meets its contract: refused before anything is stored, or what the work leaves.
 -- Assumes nothing.
-use mathlib.Core.Path.{_≡_, sym, _∙_}
+use mathlib.Core.Path.{sym, _∙_}
 use denote.Ref.{now}
 use lib.ListN.{length}
 use Rattle.search.proofs.SearchLaws.{search-ready, search-refused, search-done}

@@ -4,30 +4,22 @@ use mathlib.Core.Path.{refl}
 use borrow.Author.Needs.{needs}
 use Rattle.search.proofs.sweep.list_one.Statement.{statement}
 use Rattle.search.proofs.sweep.list_one.Tie as tie
-use Rattle.search.proofs.sweep.list_one.Reads as reads
-use Rattle.search.proofs.sweep.list_one.Lts as lts
 
--- src/sweep.rt:82:9
 mul-positions : tie.Need-mul-positions
 mul-positions c = search needs
 
--- src/sweep.rt:82:9
 slice-write-positions : tie.Need-slice-write-positions
 slice-write-positions c = search needs
 
--- src/sweep.rt:83:16
 add-result : tie.Need-add-result
 add-result c = search needs
 
--- src/sweep.rt:83:9
 same-length : tie.Need-same-length
 same-length c = search needs
 
--- src/sweep.rt:83:9
 returns : tie.Need-returns
 returns c = rw (c .if1 .taken) (refl, refl)
 
--- src/sweep.rt:77:1
 returns-2 : tie.Need-returns-2
 returns-2 c = search needs
 

@@ -1,10 +1,10 @@
 -- `sweep_all` meets its contract: each turn sweeps one survivor as the rules do.
 -- Assumes nothing.
-use Prim.Native.Nat.{_<_, _≤_, _-_, _+_, _*_, max}
-use mathlib.Core.Path.{_≡_, refl, sym, _∙_, ap, subst}
+use Prim.Native.Nat.{_≤_, _-_, _+_}
+use mathlib.Core.Path.{_≡_}
 use native.Mathlib.Omega.{arith}
 use denote.Ref.{now}
-use lib.ListN.{length, getD, drop}
+use lib.ListN.{length, getD}
 use Rattle.order.specs.Duels.{survivors}
 use Rattle.order.proofs.Lists.{windowsOf-as}
 use Rattle.order.proofs.Dueling.{duels-and-survivors}
@@ -12,12 +12,6 @@ use Rattle.search.proofs.SweepSteps.{SweptTo, none-swept, next-swept, a
 use borrow.Author.Needs.{needs}
 use Rattle.search.proofs.sweep.sweep_all.Statement.{statement}
 use Rattle.search.proofs.sweep.sweep_all.Tie as tie
-use Rattle.search.proofs.sweep.sweep_all.Reads as reads
-use Rattle.search.proofs.sweep.sweep_all.Lts as lts
-use Rattle.search.proofs.sweep.larger.Reads as larger-reads
-use Rattle.search.proofs.sweep.list_one.Reads as list-one-reads
-use Rattle.search.proofs.sweep.sweep_one.Reads as sweep-one-reads
-use Rattle.order.proofs.wide32.Reads as wide32-reads
 
 abbrev Inv-loop : tie.InvT-loop
 Inv-loop pattern low high trace survivors kept positions₀ reach₀ spent₀ found₀ k₀ positions reach spent found k =
@@ -48,27 +42,21 @@ survivor c =
     let i = survivor-inside (now (s .args .pattern)) (now (s .args .trace)) (c .before .loop .k) (omega arith) in
     omega arith
 
--- src/sweep.rt:97:5
 loop-holds : tie.Need-loop-holds Inv-loop μ-loop
 loop-holds c = none-swept _ _ _ _
 
--- src/sweep.rt:98:17
 mul-x : tie.Need-mul-x Inv-loop μ-loop
 mul-x c = search needs
 
--- src/sweep.rt:98:17
 shared-slice-read-x : tie.Need-shared-slice-read-x Inv-loop μ-loop
 shared-slice-read-x c = search needs
 
--- src/sweep.rt:99:13
 wide32-requires : tie.Need-wide32-requires Inv-loop μ-loop
 wide32-requires c κs = search needs
 
--- src/sweep.rt:100:71
 larger-requires : tie.Need-larger-requires Inv-loop μ-loop
 larger-requires c κs = search needs
 
--- src/sweep.rt:100:13
 sweep-one-requires : tie.Need-sweep-one-requires Inv-loop μ-loop
 sweep-one-requires c κs =
     let s = c .before .before .before .before .before .before .before .before .before in
@@ -83,7 +71,6 @@ sweep-one-requires c κs =
     let g = c .larger .ensures in
     record { own = s .pre .own; trace = t; inside = omega arith; begun = omega arith; small = omega (arith, few-kept s) }
 
--- src/sweep.rt:103:9
 list-one-requires : tie.Need-list-one-requires Inv-loop μ-loop
 list-one-requires c κs =
     let s = c .before .before .before .before .before .before .before .before .before .before .before in
@@ -94,15 +81,12 @@ list-one-requires c κs =
     let r = s .pre .room in
     omega arith
 
--- src/sweep.rt:104:9
 add-k : tie.Need-add-k Inv-loop μ-loop
 add-k c = search needs
 
--- src/sweep.rt:97:5
 loop-less : tie.Need-loop-less Inv-loop μ-loop
 loop-less c = search needs
 
--- src/sweep.rt:97:5
 loop-again : tie.Need-loop-again Inv-loop μ-loop
 loop-again c =
     let s = c .before .before .before .before .before .before .before .before .before .before .before .before .before .before in
@@ -113,11 +97,9 @@ loop-again c =
     (next-swept i h (number s) e (s .pre .room)
     (swept-as (c .before .before .before .before .before .before .before .before .before .loop .reach) (c .before .before .before .before .before .before .wide32 .ensures .0) (c .before .before .before .before .before .larger .ensures) (c .before .before .before .before .sweep-one .ensures)) (survivor (c .before .before .before .before .before .before .before .before)))
 
--- src/sweep.rt:89:1
 same-length : tie.Need-same-length Inv-loop μ-loop
 same-length c = c .before .loop .inv .long
 
--- src/sweep.rt:89:1
 returns : tie.Need-returns Inv-loop μ-loop
 returns c = all-swept (c .before .loop .inv) (c .loop-test .left) (number (c .before .before .before .before .before .before))
 

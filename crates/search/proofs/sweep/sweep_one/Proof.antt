@@ -1,10 +1,10 @@
 -- `sweep_one` meets its contract: each turn is one test of the rules' sweep.
 -- Assumes nothing.
-use Prim.Native.Nat.{_<_, _≤_, _-_, _+_, _*_}
-use mathlib.Core.Path.{_≡_, refl, sym, _∙_, ap, subst}
+use Prim.Native.Nat.{_<_, _-_}
+use mathlib.Core.Path.{sym, _∙_}
 use native.Mathlib.Omega.{arith}
 use denote.Ref.{now}
-use lib.ListN.{length, getD, drop}
+use lib.ListN.{length}
 use Rattle.search.proofs.SweepSteps.{own-test, Sweeping, begin, passed-on, ended-there, came-through, cheap-pass, cheap-fail}
 use borrow.Author.Needs.{needs}
 use Rattle.search.proofs.sweep.sweep_one.Statement.{statement}

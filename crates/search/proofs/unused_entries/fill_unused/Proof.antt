@@ -1,7 +1,7 @@
 -- `fill_unused` meets its contract: one entry a turn is "unused".
 -- Assumes nothing.
-use Prim.Native.Nat.{_≤_, _<_, _-_}
-use mathlib.Core.Path.{_≡_, refl, sym, _∙_, ap}
+use Prim.Native.Nat.{_≤_, _-_}
+use mathlib.Core.Path.{_≡_, refl, _∙_, ap}
 use native.Mathlib.Omega.{arith}
 use denote.Ref.{now}
 use lib.ListN.{length, set, length-set}
@@ -10,8 +10,6 @@ use Rattle.search.proofs.FilledUp.{filledTo, fill-none, fill-one}
 use borrow.Author.Needs.{needs}
 use Rattle.search.proofs.unused_entries.fill_unused.Statement.{statement}
 use Rattle.search.proofs.unused_entries.fill_unused.Tie as tie
-use Rattle.search.proofs.unused_entries.fill_unused.Reads as reads
-use Rattle.search.proofs.unused_entries.fill_unused.Lts as lts
 
 abbrev Inv-loop : tie.InvT-loop
 Inv-loop list₀ from to k₀ list k = (from ≤ k) × (k ≤ to) × (length list ≡ length list₀) × (list ≡ filledTo list₀ from k)
@@ -19,27 +17,21 @@ Inv-loop list₀ from to k₀ list k = (from ≤ k) × (k ≤ to) × (length lis
 abbrev μ-loop : tie.MeasureT-loop
 μ-loop list₀ from to k₀ list k = to - k
 
--- src/unused_entries.rt:19:5
 loop-holds : tie.Need-loop-holds Inv-loop μ-loop
 loop-holds c = (search needs, search needs, refl, fill-none (now (c .args .list)) (c .args .from))
 
--- src/unused_entries.rt:20:9
 mul-list : tie.Need-mul-list Inv-loop μ-loop
 mul-list c = search needs
 
--- src/unused_entries.rt:20:9
 slice-write-list : tie.Need-slice-write-list Inv-loop μ-loop
 slice-write-list c = search needs
 
--- src/unused_entries.rt:21:9
 add-k : tie.Need-add-k Inv-loop μ-loop
 add-k c = search needs
 
--- src/unused_entries.rt:19:5
 loop-less : tie.Need-loop-less Inv-loop μ-loop
 loop-less c = search needs
 
--- src/unused_entries.rt:19:5
 loop-again : tie.Need-loop-again Inv-loop μ-loop
 loop-again c =
     let i = c .before .loop .inv in
@@ -47,11 +39,9 @@ loop-again c =
     let s = c .before .before in
     (omega arith, omega arith, simp length-set (i .2), ap (λ l. set l (c .before .loop .k) unused) (i .3) ∙ fill-one _ _ _ (i .0) (omega arith))
 
--- src/unused_entries.rt:14:1
 same-length : tie.Need-same-length Inv-loop μ-loop
 same-length c = c .before .loop .inv .2
 
--- src/unused_entries.rt:14:1
 returns : tie.Need-returns Inv-loop μ-loop
 returns c =
     let i = c .before .loop .inv in
