@@ -27,7 +27,6 @@ pub use refusal::Refusal;
 pub use refusal::Table;
 pub use relation::Relation;
 pub use relation::compare;
-pub use relation::same;
 pub use steps::Counts;
 pub use steps::Meeting;
 pub use steps::Tested;

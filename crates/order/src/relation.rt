@@ -1,7 +1,7 @@
 // How two samples compare. Follows docs/RULES.md, "Relation". A call is the one comparison that the rules count.
 
 ghost use mathlib.Core.Path.{_≡_};
-ghost use Rattle.order.specs.Relations.{rel, alike};
+ghost use Rattle.order.specs.Relations.{rel};
 
 // What a comparison of two samples tells.
 pub enum Relation {
@@ -21,27 +21,4 @@ pub fn compare(a: i32, b: i32) -> Relation
         return Relation::Greater;
     }
     Relation::Equal
-}
-
-// Whether two comparisons told the same.
-pub fn same(a: Relation, b: Relation) -> bool
-    ensures { λ r. ⌜ r ≡ alike a b ⌝ }
-{
-    match a {
-        Relation::Less => match b {
-            Relation::Less => true,
-            Relation::Equal => false,
-            Relation::Greater => false,
-        },
-        Relation::Equal => match b {
-            Relation::Less => false,
-            Relation::Equal => true,
-            Relation::Greater => false,
-        },
-        Relation::Greater => match b {
-            Relation::Less => false,
-            Relation::Equal => false,
-            Relation::Greater => true,
-        },
-    }
 }

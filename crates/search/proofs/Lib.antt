@@ -2,6 +2,7 @@
 pub mod SearchVerdicts
 pub mod Agreed
 pub mod MeetingByTable
+pub mod CodeLaws
 pub mod StackLaws
 pub mod SweepSteps
 pub mod FilledUp

@@ -12,6 +12,7 @@ use Rattle.order.specs.Duels.{duels, survivors}
 use Rattle.order.specs.Sweeping.{sweepCost, positions}
 use Rattle.order.specs.declared.steps.Counts.{Counts}
 use Rattle.tables.specs.Asked.{OwnNeighbours}
+use Rattle.search.specs.Codes.{Coded}
 
 -- a duel of window y with the one a before it, by the witness (i, j)
 pub record Duelable (P T : List ℤ) (y a i j : ℕ) : Type 0 where
@@ -30,8 +31,9 @@ pub record OwnWitnesses (P : List ℤ) (wi wj : List ℕ) : Type 0 where
   pub j-own : (a : ℕ) → a < length P → getD wj a 0 ≡ entry (witnessJ P a)
 
 -- window x and a later window y of the trace
-pub record Meetable (P : List ℤ) (wi wj : List ℕ) (T : List ℤ) (x y : ℕ) : Type 0 where
+pub record Meetable (P : List ℤ) (wi wj codes : List ℕ) (T : List ℤ) (x y : ℕ) : Type 0 where
   pub own : OwnWitnesses P wi wj
+  pub coded : Coded P wi wj codes (length P)
   pub later : x < y
   pub inside : y + length P ≤ length T
 

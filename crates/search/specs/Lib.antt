@@ -2,6 +2,7 @@
 -- other.
 pub mod Answers
 pub mod Promises
+pub mod Codes
 pub mod Asked
 pub mod Stacks
 pub mod Sweeps

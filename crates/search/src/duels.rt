@@ -5,21 +5,20 @@
 // fight at most N duels, of one comparison each. The stack is the survivors buffer itself. Callers hand over the pattern's own
 // tables and a buffer with room for every window.
 
+use crate::codes::code_at;
 use order::Meeting;
 use order::NONE;
 use order::Offset;
 use order::Place;
-use order::Relation;
 use order::Window;
 use order::wide16;
 use order::wide32;
 ghost use mathlib.Core.Path.{_≡_};
 ghost use Prim.Native.Nat.{_+_, _<_};
 ghost use lib.ListN.{length};
-ghost use Rattle.order.specs.Sizes.{at};
-ghost use Rattle.order.specs.Relations.{rel};
 ghost use Rattle.order.specs.Duels.{duel as duelOf, meets};
 ghost use Rattle.search.specs.Asked.{Duelable, Meetable, Duels};
+ghost use Rattle.search.specs.Codes.{bothCodes, Coded};
 ghost use Rattle.search.specs.Stacks.{DuelsOf};
 
 // Whether an arriving window ends on the stack.
@@ -34,30 +33,29 @@ pub(crate) struct Duelled {
     pub fought: u32,
 }
 
-// How sample i of a list compares with sample j.
-fn compare_at(v: &[i32], i: usize, j: usize) -> Relation
-    requires { ⌜ (i < length (now v)) × (j < length (now v)) ⌝ }
-    ensures { λ r. ⌜ r ≡ rel (at (now (v .entry)) i) (at (now (v .entry)) j) ⌝ }
-{
-    order::compare(v[i], v[j])
-}
-
-// The duel of window y with the window a before it, by the witness (i, j): one comparison of the trace. Where the older window
-// stands the newer can't, since a witness compares differently at its offset, so the pattern's start is looked at only where
-// the older has fallen.
-fn duel(pattern: &[i32], trace: &[i32], y: Window, a: Offset, i: Place, j: Place) -> Meeting
-    requires { ⌜ Duelable (now pattern) (now trace) (y .0) (a .0) (i .0) (j .0) ⌝ }
+// The duel of window y with the window a before it, by the witness (i, j) and how the pattern compares there: one comparison of the
+// trace. Where the older window stands the newer can't, since a witness compares differently at its offset, so the newer is looked
+// at only where the older has fallen.
+fn duel(
+    pattern: &[i32],
+    trace: &[i32],
+    y: Window,
+    a: Offset,
+    i: Place,
+    j: Place,
+    codes: u8,
+) -> Meeting
+    requires { ⌜ Duelable (now pattern) (now trace) (y .0) (a .0) (i .0) (j .0) × (codes ≡ bothCodes (now pattern) (a .0) (i .0) (j .0)) ⌝ }
     ensures { λ r. ⌜ r ≡ duelOf (now (pattern .entry)) (now (trace .entry)) (y .0) (a .0) (i .0) (j .0) ⌝ }
 {
     let y = y.0;
-    let a = a.0;
     let i = i.0;
     let j = j.0;
-    let seen = compare_at(trace, y + i, y + j);
-    if order::same(seen, compare_at(pattern, a + i, a + j)) {
+    let seen = code_at(trace, y + i, y + j);
+    if seen == codes / 4 {
         return Meeting::NewerFalls;
     }
-    if order::same(seen, compare_at(pattern, i, j)) {
+    if seen == codes % 4 {
         return Meeting::OlderFalls;
     }
     Meeting::BothFall // it suits neither
@@ -68,11 +66,12 @@ fn meet(
     pattern: &[i32],
     witness_i: &[u16],
     witness_j: &[u16],
+    codes: &[u8],
     trace: &[i32],
     x: Window,
     y: Window,
 ) -> Meeting
-    requires { ⌜ Meetable (now pattern) (now «witness_i») (now «witness_j») (now trace) (x .0) (y .0) ⌝ }
+    requires { ⌜ Meetable (now pattern) (now «witness_i») (now «witness_j») (now codes) (now trace) (x .0) (y .0) ⌝ }
     ensures { λ r. ⌜ r ≡ meets (now (pattern .entry)) (now (trace .entry)) (x .0) (y .0) ⌝ }
 {
     let apart = Offset::between(x, y);
@@ -85,7 +84,15 @@ fn meet(
         return Meeting::Agree;
     }
     let j = witness_j[a];
-    duel(pattern, trace, y, apart, Place(wide16(i)), Place(wide16(j)))
+    duel(
+        pattern,
+        trace,
+        y,
+        apart,
+        Place(wide16(i)),
+        Place(wide16(j)),
+        codes[a],
+    )
 }
 
 // All windows below `windows` arrive.
@@ -93,11 +100,12 @@ pub(crate) fn duel_all(
     pattern: &[i32],
     witness_i: &[u16],
     witness_j: &[u16],
+    codes: &[u8],
     trace: &[i32],
     windows: usize,
     survivors: &mut [u32],
 ) -> Duelled
-    requires { ⌜ Duels (now pattern) (now «witness_i») (now «witness_j») (now trace) windows (now survivors) ⌝ }
+    requires { ⌜ Duels (now pattern) (now «witness_i») (now «witness_j») (now trace) windows (now survivors) × Coded (now pattern) (now «witness_i») (now «witness_j») (now codes) (length (now pattern)) ⌝ }
     ensures { λ r. ⌜ DuelsOf (now (pattern .entry)) (now (trace .entry)) windows (now (survivors .entry)) (now (survivors .exit)) (r .kept) (r .fought) ⌝ }
 {
     let mut kept: usize = 0;
@@ -115,6 +123,7 @@ pub(crate) fn duel_all(
                 pattern,
                 witness_i,
                 witness_j,
+                codes,
                 trace,
                 Window(x),
                 Window(arriving),

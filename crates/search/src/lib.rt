@@ -5,6 +5,7 @@
 
 mod answers;
 mod checks;
+mod codes;
 mod duels;
 mod searching;
 mod sweep;

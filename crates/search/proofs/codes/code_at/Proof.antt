@@ -1,11 +1,12 @@
--- `compare_at` meets its contract: the samples' bits stand for the samples.
+-- `code_at` meets its contract: the samples' bits stand for the samples.
 -- Assumes nothing.
-use mathlib.Core.Path.{_∙_, ap₂}
+use mathlib.Core.Path.{_∙_, ap, ap₂}
 use borrow.Author.Needs.{needs, sfits-of}
 use mir.Facts.{toZ-ofZ}
 use Rattle.order.specs.Relations.{rel}
-use Rattle.search.proofs.duels.compare_at.Statement.{statement}
-use Rattle.search.proofs.duels.compare_at.Tie as tie
+use Rattle.search.specs.Codes.{code}
+use Rattle.search.proofs.codes.code_at.Statement.{statement}
+use Rattle.search.proofs.codes.code_at.Tie as tie
 
 mul-compare : tie.Need-mul-compare
 mul-compare c = search needs
@@ -22,13 +23,18 @@ shared-slice-copy-out-compare-2 c = search needs
 compare-requires : tie.Need-compare-requires
 compare-requires c κs = search needs
 
-returns : tie.Need-returns
-returns c =
-    c .compare .ensures ∙
-    ap₂ rel (toZ-ofZ (sfits-of (c .before .before .compare-arg .given))) (toZ-ofZ (sfits-of (c .before .compare-arg2 .given)))
+code-requires : tie.Need-code-requires
+code-requires c κs = search needs
 
-pub compare-at-spec : {M : Type 1} → statement M
-compare-at-spec =
+returns : tie.Need-returns
+returns c = (
+  c .code .ensures .0 ∙ ap code (c .before .compare .ensures ∙
+      ap₂ rel (toZ-ofZ (sfits-of (c .before .before .before .compare-arg .given))) (toZ-ofZ (sfits-of (c .before .before .compare-arg2 .given)))),
+  c .code .ensures .1,
+)
+
+pub code-at-spec : {M : Type 1} → statement M
+code-at-spec =
     tie.close
     (tie.spec
     mul-compare
@@ -36,4 +42,5 @@ compare-at-spec =
     mul-compare-2
     shared-slice-copy-out-compare-2
     compare-requires
+    code-requires
     returns)
