@@ -7,6 +7,7 @@ pub mod Filling
 pub mod Equivalences
 pub mod Isomorphisms
 pub mod Nearest
+pub mod NearestOnly
 pub mod PlaceTests
 pub mod Entries
 pub mod Comparing

@@ -15,9 +15,10 @@ use Rattle.order.specs.Sizes.{Spot, none, place, entry, lowest}
 use Rattle.order.specs.Neighbours.{lowOf, highOf, lowTable, highTable}
 use Rattle.order.specs.Witnesses.{witnessI, witnessJ, witnessITable, witnessJTable}
 use Rattle.order.specs.Refusals.{foreignAt}
+use Rattle.order.specs.Written.{over}
 use Rattle.order.proofs.Tests.{clash, or-neither-first, or-neither-second}
 use Rattle.order.proofs.Lists.{Finds, Lowest, lowest-finds, finds-lowest}
-use Rattle.tables.specs.Asked.{TablesWritten, FirstDifference, FirstForeign}
+use Rattle.tables.specs.Asked.{OwnNeighbours, TablesWritten, FirstDifference, FirstForeign}
 use Rattle.order.proofs.Filling.{over-at}
 
 -- ---- one table
@@ -142,3 +143,20 @@ against-own P low high wi wj l h i j {low'} {high'} {wi'} {wj'} {a} {b} {c} {d} 
     (λ k g. ap (λ v. getD v k 0) (t .witness-i-written) ∙ over-at (λ n. entry (witnessI P n)) k 0 i g)
     (λ k g. ap (λ v. getD v k 0) (t .witness-j-written) ∙ over-at (λ n. entry (witnessJ P n)) k 0 j g)
     p q s u)
+
+-- the same, where the neighbours are the pattern's own and its witness tables were written over some buffers
+pub against-witnesses : (P : List ℤ) (low high wi wj i j : List ℕ) {wi' wj' : List ℕ} {c d r : ℕ}
+    → OwnNeighbours P low high → (wi' ≡ over (witnessITable P) i) × (wj' ≡ over (witnessJTable P) j)
+    → FirstDifference wi wi' (length P) c → FirstDifference wj wj' (length P) d → r ≡ min c d → FirstForeign P low high wi wj r
+unfolding witnessITable witnessJTable
+against-witnesses P low high wi wj i j {wi'} {wj'} {c} {d} {r} o w s u e =
+    let h : c ≤ length P = s .within in
+    let all : min (min (length P) (length P)) (min c d) ≡ r = omega arith in
+    subst (FirstForeign P low high wi wj) all
+    (four-tables P low high wi wj low high wi' wj' (length P) (length P) c d (o .low-own) (o .high-own)
+    (λ k g. ap (λ v. getD v k 0) (w .0) ∙ over-at (λ n. entry (witnessI P n)) k 0 i g)
+    (λ k g. ap (λ v. getD v k 0) (w .1) ∙ over-at (λ n. entry (witnessJ P n)) k 0 j g)
+    (alike low) (alike high) s u)
+  where
+    alike : (t : List ℕ) → FirstDifference t t (length P) (length P)
+    alike t = record { within = omega arith; differs = λ h. absurd (omega arith); alike-before = λ k h. refl }

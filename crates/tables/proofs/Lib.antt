@@ -3,6 +3,8 @@ pub mod Verdicts
 pub mod VerdictRows
 pub mod LengthLaws
 pub mod NearestSoFar
+pub mod SampleSteps
+pub mod ClaimLaws
 pub mod Offsets
 pub mod OwnTables
 pub mod Stretches

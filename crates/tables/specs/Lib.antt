@@ -4,3 +4,4 @@ pub mod Answers
 pub mod Promises
 pub mod Lengths
 pub mod Asked
+pub mod Claims

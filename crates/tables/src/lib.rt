@@ -6,6 +6,7 @@
 
 mod answers;
 mod checks;
+mod claimed;
 mod fitting_lengths;
 mod neighbours;
 mod own_tables;
