@@ -1,7 +1,7 @@
 -- Shows: claimed neighbours are the pattern's own where no earlier sample lies between them and none that equals one of them stands
 -- after it. One proof serves both sides.
 -- Assumes nothing.
-use Prim.Native.Nat.{ℕ, _+_, _≤_, _<_}
+use Prim.Native.Nat.{ℕ, _+_, _≤_, _<_, min, max}
 use mathlib.Core.Path.{_≡_, refl, sym, _∙_, ap, subst}
 use mathlib.Core.List.{List}
 use mathlib.Core.Bool.{Bool, true, false, not, cond, _&&_, _||_}
@@ -184,23 +184,14 @@ between-entries P j l h {s} {s'} {b} {a} {b'} {a'} f c n =
       high-own = c .own (λ i k t. let x = n .clear i k in (x .not-greater, x .beyond (leZ-trans (limitAt s b a i) (at P j) (at P i) (f .beside i) t)));
     }
 
--- ---- the three stretches before a place: up to the first neighbour, from it to the second, and after both
+-- ---- the stretches before a place: up to the first neighbour, from one to the other, and after both
 
-module _ (P : List ℤ) (j low high : ℕ) (b a b' a' : ℤ) where
-  pub low-first : low ≤ high → NoneWithin P 0 low b b' → NoneWithin P low high a b' → NoneWithin P high j a a' → NoneBetween P j low b a high b' a'
-  low-first h x y z = record { clear = λ i k. go i k (ltb i low) (ltb i high) refl refl }
-    where
-      go : (i : ℕ) → i < j → (t s : Bool) → ltb i low ≡ t → ltb i high ≡ s → Outside (cond t b a) (cond s b' a') (at P i)
-      go i k true true p q = x .clear i (omega arith) (ltb-true i low p)
-      go i k true false p q = let u : i < low = ltb-true i low p in let v : high ≤ i = ltb-false i high q in absurd (omega arith)
-      go i k false true p q = y .clear i (ltb-false i low p) (ltb-true i high q)
-      go i k false false p q = z .clear i (ltb-false i high q) k
-
-  pub high-first : high ≤ low → NoneWithin P 0 high b b' → NoneWithin P high low b a' → NoneWithin P low j a a' → NoneBetween P j low b a high b' a'
-  high-first h x y z = record { clear = λ i k. go i k (ltb i low) (ltb i high) refl refl }
-    where
-      go : (i : ℕ) → i < j → (t s : Bool) → ltb i low ≡ t → ltb i high ≡ s → Outside (cond t b a) (cond s b' a') (at P i)
-      go i k true true p q = x .clear i (omega arith) (ltb-true i high q)
-      go i k true false p q = y .clear i (ltb-false i high q) (ltb-true i low p)
-      go i k false true p q = let u : low ≤ i = ltb-false i low p in let v : i < high = ltb-true i high q in absurd (omega arith)
-      go i k false false p q = z .clear i (ltb-false i low p) k
+pub stretches : (P : List ℤ) (j low high : ℕ) (b a b' a' : ℤ) {first last : ℕ} → first ≡ min low high → last ≡ max low high
+    → NoneWithin P 0 first b b' → NoneWithin P low high a b' → NoneWithin P high low b a' → NoneWithin P last j a a' → NoneBetween P j low b a high b' a'
+stretches P j low high b a b' a' {first} {last} f l w x y z = record { clear = λ i k. go i k (ltb i low) (ltb i high) refl refl }
+  where
+    go : (i : ℕ) → i < j → (t s : Bool) → ltb i low ≡ t → ltb i high ≡ s → Outside (cond t b a) (cond s b' a') (at P i)
+    go i k true true p q = let u : i < low = ltb-true i low p in let v : i < high = ltb-true i high q in w .clear i (omega arith) (omega arith)
+    go i k true false p q = y .clear i (ltb-false i high q) (ltb-true i low p)
+    go i k false true p q = x .clear i (ltb-false i low p) (ltb-true i high q)
+    go i k false false p q = let u : low ≤ i = ltb-false i low p in let v : high ≤ i = ltb-false i high q in z .clear i (omega arith) k

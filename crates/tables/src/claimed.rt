@@ -8,7 +8,7 @@ use order::NONE;
 use order::wide16;
 ghost use mathlib.Core.Path.{_≡_};
 ghost use mathlib.Core.Bool.{true};
-ghost use Prim.Native.Nat.{_<_, _≤_};
+ghost use Prim.Native.Nat.{_<_, _≤_, min, max};
 ghost use lib.ListN.{length};
 ghost use Rattle.order.specs.Sizes.{entry, patternLimit};
 ghost use Rattle.order.specs.Neighbours.{lowOf, highOf};
@@ -19,6 +19,18 @@ ghost use Rattle.tables.specs.Claims.{Outside, NoneWithin, Floor, Ceilin
 const LEAST: i32 = -2147483648;
 
 const GREATEST: i32 = 2147483647;
+
+pub(crate) fn smaller(a: usize, b: usize) -> usize
+    ensures { λ r. ⌜ r ≡ min a b ⌝ }
+{
+    if a < b { a } else { b }
+}
+
+fn larger(a: usize, b: usize) -> usize
+    ensures { λ r. ⌜ r ≡ max a b ⌝ }
+{
+    if a < b { b } else { a }
+}
 
 // Whether a sample lies below lo or above hi.
 fn outside(x: i32, lo: i32, hi: i32) -> bool
@@ -116,21 +128,18 @@ fn ceiling(pattern: &[i32], j: usize, h: u16) -> Limit
     }
 }
 
-// Whether no sample before place j lies between the limits.
+// Whether no sample before place j lies between the limits: up to the first neighbour, from one to the other, of which one range is
+// empty, and after both.
 fn none_between(pattern: &[i32], j: usize, below: Limit, above: Limit) -> bool
     requires { ⌜ (below .start ≤ j) × (above .start ≤ j) × (j ≤ length (now pattern)) ⌝ }
     ensures { λ r. ⌜ (r ≡ true → NoneBetween (now (pattern .entry)) j (below .start) (below .before) (below .after) (above .start) (above .before) (above .after)) ⌝ }
 {
     let low = below.start;
     let high = above.start;
-    if low < high {
-        return none_within(pattern, 0, low, below.before, above.before)
-            & none_within(pattern, low, high, below.after, above.before)
-            & none_within(pattern, high, j, below.after, above.after);
-    }
-    none_within(pattern, 0, high, below.before, above.before)
+    none_within(pattern, 0, smaller(low, high), below.before, above.before)
+        & none_within(pattern, low, high, below.after, above.before)
         & none_within(pattern, high, low, below.before, above.after)
-        & none_within(pattern, low, j, below.after, above.after)
+        & none_within(pattern, larger(low, high), j, below.after, above.after)
 }
 
 // Whether place k is both neighbours of place j: an earlier equal sample with no other after it; at place 0 there is none.

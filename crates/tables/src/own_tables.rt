@@ -9,6 +9,7 @@
 use crate::answers::Checked;
 use crate::checks::check_prepare;
 use crate::claimed::neighbours_fit;
+use crate::claimed::smaller;
 use crate::preparation::write_tables;
 use crate::witnesses::write_witnesses;
 use order::PATTERN_LIMIT;
