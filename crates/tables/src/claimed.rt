@@ -10,8 +10,7 @@ ghost use mathlib.Core.Path.{_≡_};
 ghost use mathlib.Core.Bool.{true};
 ghost use Prim.Native.Nat.{_<_, _≤_, min, max};
 ghost use lib.ListN.{length};
-ghost use Rattle.order.specs.Sizes.{entry, patternLimit};
-ghost use Rattle.order.specs.Neighbours.{lowOf, highOf};
+ghost use Rattle.order.specs.Sizes.{patternLimit};
 ghost use Rattle.tables.specs.Asked.{OwnNeighbours};
 ghost use Rattle.tables.specs.Claims.{Outside, NoneWithin, Floor, Ceiling, NoneBetween, OwnEntries};
 
@@ -39,7 +38,8 @@ fn outside(x: i32, lo: i32, hi: i32) -> bool
     (x < lo) | (hi < x)
 }
 
-// Whether none of the samples at the places from..to lies from lo to hi, both counted in.
+// Whether none of the samples at the places from..to lies from lo to hi, both counted in. It looks at all of them even after one that
+// does: a loop that could end early would take them one by one.
 fn none_within(pattern: &[i32], from: usize, to: usize, lo: i32, hi: i32) -> bool
     requires { ⌜ to ≤ length (now pattern) ⌝ }
     ensures { λ r. ⌜ (r ≡ true → NoneWithin (now (pattern .entry)) from to lo hi) ⌝ }
@@ -51,8 +51,8 @@ fn none_within(pattern: &[i32], from: usize, to: usize, lo: i32, hi: i32) -> boo
     clear
 }
 
-// The sample at which what a neighbour forbids begins: of its own value only the places after it are forbidden, so it is the next
-// value up to the neighbour and the neighbour's value from `start`, the place after it, on. Without a neighbour all is forbidden.
+// Where the samples begin that a claimed neighbour forbids. Up to the neighbour that is the next value beyond its own, since an equal
+// sample may stand there; from `start` on, the place after it, it is its own value. Where no neighbour is claimed all is forbidden.
 struct Limit {
     fits: bool,
     start: usize,
@@ -60,7 +60,8 @@ struct Limit {
     after: i32,
 }
 
-// What the low neighbour l, claimed of place j, forbids from below; it doesn't fit if it is no earlier place with a lower sample.
+// What the low neighbour l, claimed of place j, forbids from below. It doesn't fit if it is no earlier place with a lower sample; an
+// equal one would be both neighbours. One more than a sample that has a greater one beside it is a sample.
 fn floor(pattern: &[i32], j: usize, l: u16) -> Limit
     requires { ⌜ (j < length (now pattern)) × (length (now pattern) ≤ patternLimit) ⌝ }
     ensures { λ r. ⌜ (r .fits ≡ true → Floor (now (pattern .entry)) j l (r .start) (r .before) (r .after)) ⌝ }
