@@ -48,10 +48,10 @@ returns c e =
     let ga : SFits w32 (s .args .above .after) = sfits-of (w .before .struct-told2 .given .1 .1 .1 .0 .1) in
     stretches (now (s .args .pattern)) (s .args .j) (s .args .below .start) (s .args .above .start) (s .args .below .before) (s .args .below .after)
     (s .args .above .before) (s .args .above .after) (f .smaller .ensures) (z .larger .ensures)
-    (rw (toZ-ofZ fb, toZ-ofZ gb) at (w .none-within .ensures (and-first ps qs ab)))
-    (rw (toZ-ofZ fa, toZ-ofZ gb) at (x .none-within2 .ensures (and-second ps qs ab)))
-    (rw (toZ-ofZ fb, toZ-ofZ ga) at (y .none-within3 .ensures (and-second (ps && qs) rs abc)))
-    (rw (toZ-ofZ fa, toZ-ofZ ga) at (c .none-within4 .ensures (and-second ((ps && qs) && rs) (c .none-within4 .result) e)))
+    (simp (toZ-ofZ fb, toZ-ofZ fa, toZ-ofZ gb, toZ-ofZ ga) at (w .none-within .ensures (and-first ps qs ab)))
+    (simp (toZ-ofZ fb, toZ-ofZ fa, toZ-ofZ gb, toZ-ofZ ga) at (x .none-within2 .ensures (and-second ps qs ab)))
+    (simp (toZ-ofZ fb, toZ-ofZ fa, toZ-ofZ gb, toZ-ofZ ga) at (y .none-within3 .ensures (and-second (ps && qs) rs abc)))
+    (simp (toZ-ofZ fb, toZ-ofZ fa, toZ-ofZ gb, toZ-ofZ ga) at (c .none-within4 .ensures (and-second ((ps && qs) && rs) (c .none-within4 .result) e)))
 
 pub none-between-spec : {M : Type 1} → statement M
 none-between-spec =
