@@ -8,7 +8,7 @@ use native.Mathlib.Omega.{arith}
 use lib.Dec.{leb}
 use lib.IntN.{ℤ}
 use borrow.Author.Tests.{leb-true, leb-false}
-use Rattle.order.specs.Sizes.{Spot, none, place, at}
+use Rattle.order.specs.Sizes.{Spot, none, place}
 use Rattle.order.specs.Neighbours.{nearest}
 use Rattle.order.proofs.Tests.{clash}
 use Rattle.order.proofs.Nearest.{Ordering, Neighbour, Near, nearest-is}

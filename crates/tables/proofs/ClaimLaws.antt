@@ -16,8 +16,8 @@ use borrow.Author.Tests.{ltb-true, ltb-false, le-ltb, eqb-true, not-false}
 use Rattle.order.specs.Sizes.{none, place, at, entry, noPlace}
 use Rattle.order.specs.Neighbours.{nearest, lowOf, highOf}
 use Rattle.order.proofs.Tests.{clash, must-fail, and-first, and-second}
-use Rattle.order.proofs.Orders.{ltZ-not-leZ, leZ-refl, leZ-total, leZ-trans}
-use Rattle.order.proofs.Nearest.{Ordering, upward, turned, flipped, Neighbour, Near}
+use Rattle.order.proofs.Orders.{ltZ-not-leZ, leZ-refl, leZ-trans}
+use Rattle.order.proofs.Nearest.{Ordering, upward, turned, Neighbour, Near}
 use Rattle.order.proofs.NearestOnly.{nearest-only}
 use Rattle.order.proofs.Entries.{entry-of-none, entry-of-place}
 use Rattle.tables.specs.Claims.{least, greatest, Outside, NoneWithin, limitAt, Limits, Floor, Ceiling, NoneBetween, OwnEntries}

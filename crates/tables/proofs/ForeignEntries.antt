@@ -3,21 +3,20 @@
 -- Assumes nothing.
 use Prim.Native.Nat.{ℕ, _≤_, _<_, min}
 use mathlib.Core.Path.{_≡_, refl, sym, _∙_, ap, ap₂, subst}
-use mathlib.Core.Logic.{_⊎_, inl, inr, ⊎-elim}
 use mathlib.Core.List.{List}
 use mathlib.Core.Bool.{Bool, true, false, cond, not, _||_}
 use native.Mathlib.Omega.{arith}
 use lib.Dec.{ltb, eqb}
 use lib.IntN.{ℤ}
 use lib.ListN.{length, getD}
-use borrow.Author.Tests.{ltb-true, ltb-false, lt-ltb, le-ltb, eq-eqb, ne-eqb, eqb-true}
-use Rattle.order.specs.Sizes.{Spot, none, place, entry, lowest}
+use borrow.Author.Tests.{ltb-true, ltb-false, eq-eqb, ne-eqb, eqb-true}
+use Rattle.order.specs.Sizes.{none, place, entry, lowest}
 use Rattle.order.specs.Neighbours.{lowOf, highOf, lowTable, highTable}
 use Rattle.order.specs.Witnesses.{witnessI, witnessJ, witnessITable, witnessJTable}
 use Rattle.order.specs.Refusals.{foreignAt}
 use Rattle.order.specs.Written.{over}
-use Rattle.order.proofs.Tests.{clash, or-neither-first, or-neither-second}
-use Rattle.order.proofs.Lists.{Finds, Lowest, lowest-finds, finds-lowest}
+use Rattle.order.proofs.Tests.{clash}
+use Rattle.order.proofs.Lists.{finds-lowest}
 use Rattle.tables.specs.Asked.{OwnNeighbours, TablesWritten, FirstDifference, FirstForeign}
 use Rattle.order.proofs.Filling.{over-at}
 

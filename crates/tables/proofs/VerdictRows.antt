@@ -3,23 +3,19 @@
 -- Assumes nothing.
 use Prim.Native.Nat.{ℕ, _≤_, _<_}
 use mathlib.Core.Path.{_≡_, refl, sym, _∙_, ap}
-use mathlib.Core.Logic.{_⊎_, inl, inr, ⊎-elim}
+use mathlib.Core.Logic.{_⊎_, inl, inr}
 use mathlib.Core.List.{List}
-use mathlib.Core.Bool.{Bool, true, false, cond, not, _||_}
+use mathlib.Core.Bool.{Bool, true, false}
 use native.Mathlib.Omega.{arith}
 use lib.Dec.{ltb, eqb}
 use lib.IntN.{ℤ}
-use lib.ListN.{length, getD}
-use borrow.Author.Tests.{ltb-true, ltb-false, lt-ltb, le-ltb}
+use lib.ListN.{length}
+use borrow.Author.Tests.{lt-ltb, le-ltb}
 use Rattle.order.specs.declared.refusal.Refusal.{Refusal}
 use Rattle.order.specs.declared.refusal.Refusal.the-variants.{EmptyPattern, LongPattern, ShortTable, LongTrace, ShortSurvivors, ShortPositions, ForeignEntry}
 use Rattle.order.specs.declared.refusal.Table.the-variants.{Low, High, WitnessI, WitnessJ}
-use Rattle.order.specs.Sizes.{Spot, none, place, entry, lowest, patternLimit, traceLimit, windowsOf}
-use Rattle.order.specs.Neighbours.{lowOf, highOf}
-use Rattle.order.specs.Witnesses.{witnessI, witnessJ}
+use Rattle.order.specs.Sizes.{lowest, patternLimit, traceLimit, windowsOf}
 use Rattle.order.specs.Refusals.{Verdict, accepted, refused, refuse, patternVerdict, witnessesVerdict, tablesVerdict, prepareVerdict, roomVerdict, ownVerdict, foreignAt}
-use Rattle.order.proofs.Tests.{clash, or-neither-first, or-neither-second}
-use Rattle.order.proofs.Lists.{Finds, lowest-finds}
 use Rattle.tables.specs.declared.answers.Checked.{Checked}
 use Rattle.tables.specs.declared.answers.Checked.the-variants.{Fine, Refused}
 use Rattle.tables.specs.Answers.{checkedBy}

@@ -5,10 +5,11 @@
 // the compiler turns into steps of four samples. "No" only means that some entry is not shown to be right. No array is kept.
 
 use order::NONE;
+use order::smaller;
 use order::wide16;
 ghost use mathlib.Core.Path.{_≡_};
 ghost use mathlib.Core.Bool.{true};
-ghost use Prim.Native.Nat.{_<_, _≤_, min, max};
+ghost use Prim.Native.Nat.{_<_, _≤_, max};
 ghost use lib.ListN.{length};
 ghost use Rattle.order.specs.Sizes.{patternLimit};
 ghost use Rattle.tables.specs.Asked.{OwnNeighbours};
@@ -18,12 +19,6 @@ ghost use Rattle.tables.specs.Claims.{Outside, NoneWithin, Floor, Ceilin
 const LEAST: i32 = -2147483648;
 
 const GREATEST: i32 = 2147483647;
-
-pub(crate) fn smaller(a: usize, b: usize) -> usize
-    ensures { λ r. ⌜ r ≡ min a b ⌝ }
-{
-    if a < b { a } else { b }
-}
 
 fn larger(a: usize, b: usize) -> usize
     ensures { λ r. ⌜ r ≡ max a b ⌝ }

@@ -9,7 +9,6 @@
 use crate::answers::Checked;
 use crate::checks::check_prepare;
 use crate::claimed::neighbours_fit;
-use crate::claimed::smaller;
 use crate::preparation::write_tables;
 use crate::witnesses::write_witnesses;
 use order::PATTERN_LIMIT;
@@ -18,7 +17,7 @@ use order::smaller;
 ghost use mathlib.Core.Path.{_≡_};
 ghost use Prim.Native.Nat.{_≤_};
 ghost use lib.ListN.{length};
-ghost use Rattle.order.specs.Sizes.{patternLimit, lowest};
+ghost use Rattle.order.specs.Sizes.{lowest};
 ghost use Rattle.order.specs.Refusals.{ownVerdict, foreignAt};
 ghost use Rattle.tables.specs.Answers.{checkedBy};
 ghost use Rattle.tables.specs.Asked.{Room, OwnNeighbours, FirstDifference, FirstForeign};

@@ -4,31 +4,23 @@ use Rattle.tables.proofs.VerdictRows.{room-long, room-survivors, room-p
 use borrow.Author.Needs.{needs}
 use Rattle.tables.proofs.checks.check_room.Statement.{statement}
 use Rattle.tables.proofs.checks.check_room.Tie as tie
-use Rattle.tables.proofs.checks.check_room.Reads as reads
-use Rattle.tables.proofs.checks.check_room.Lts as lts
-use Rattle.tables.proofs.checks.count_windows.Reads as count-windows-reads
 
--- src/searching.rt:44:9
 returns : tie.Need-returns
 returns c = let a = c .before .args in room-long (a .m) (a .n) (a .survivors) (a .positions) (c .if1 .taken)
 
--- src/searching.rt:46:9
 count-windows-requires : tie.Need-count-windows-requires
 count-windows-requires c κs = search needs
 
--- src/searching.rt:48:9
 returns-2 : tie.Need-returns-2
 returns-2 c =
     let a = c .before .before .before .args in
     room-survivors (a .m) (a .n) (a .survivors) (a .positions) (c .before .before .if1 .left) (c .before .count-windows .ensures) (c .if2 .taken)
 
--- src/searching.rt:51:9
 returns-3 : tie.Need-returns-3
 returns-3 c =
     let a = c .before .before .before .before .args in
     room-positions (a .m) (a .n) (a .survivors) (a .positions) (c .before .before .before .if1 .left) (c .before .before .count-windows .ensures) (c .before .if2 .left) (c .if3 .taken)
 
--- src/searching.rt:40:1
 returns-4 : tie.Need-returns-4
 returns-4 c =
     let a = c .before .before .before .before .args in

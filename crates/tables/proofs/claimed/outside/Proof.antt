@@ -2,7 +2,6 @@
 -- Assumes nothing.
 use mir.Facts.{toZ-ofZ}
 use Rattle.tables.proofs.ClaimLaws.{outside-told}
-use borrow.Author.Needs.{needs}
 use Rattle.tables.proofs.claimed.outside.Statement.{statement}
 use Rattle.tables.proofs.claimed.outside.Tie as tie
 

@@ -5,36 +5,26 @@ use Rattle.tables.proofs.LengthLaws.{fit-limit, fit-windows, fit-refuse
 use borrow.Author.Needs.{needs}
 use Rattle.tables.proofs.fitting_lengths.fit.Statement.{statement}
 use Rattle.tables.proofs.fitting_lengths.fit.Tie as tie
-use Rattle.tables.proofs.fitting_lengths.fit.Reads as reads
-use Rattle.tables.proofs.fitting_lengths.fit.Lts as lts
-use Rattle.tables.proofs.checks.check_room.Reads as check-room-reads
-use Rattle.tables.proofs.checks.count_windows.Reads as count-windows-reads
 
--- src/fitting_lengths.rt:27:11
 check-room-requires : tie.Need-check-room-requires
 check-room-requires c κs = search needs
 
--- src/fitting_lengths.rt:28:26
 enum-known-why : tie.Need-enum-known-why
 enum-known-why c = search needs
 
--- src/fitting_lengths.rt:29:39
 enum-told : tie.Need-enum-told
 enum-told c = search needs
 
--- src/fitting_lengths.rt:29:39
 count-windows-requires : tie.Need-count-windows-requires
 count-windows-requires c κs =
     let a = c .before .before .before .args in
     fit-limit (a .m) (a .n) (a .survivors) (a .positions) (sym (c .enum-told .given .1) ∙ c .before .before .check-room .ensures)
 
--- src/fitting_lengths.rt:24:1
 returns : tie.Need-returns
 returns c =
     let a = c .before .before .before .before .args in
     fit-refused (a .m) (a .n) (a .survivors) (a .positions) (c .before .why .given .0 .0) (sym (c .before .why .given .1) ∙ c .before .before .before .check-room .ensures)
 
--- src/fitting_lengths.rt:24:1
 returns-2 : tie.Need-returns-2
 returns-2 c =
     let a = c .before .before .before .before .args in

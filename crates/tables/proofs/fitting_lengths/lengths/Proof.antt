@@ -5,35 +5,25 @@ use Rattle.tables.proofs.LengthLaws.{lengths-refused, lengths-fit}
 use borrow.Author.Needs.{needs}
 use Rattle.tables.proofs.fitting_lengths.lengths.Statement.{statement}
 use Rattle.tables.proofs.fitting_lengths.lengths.Tie as tie
-use Rattle.tables.proofs.fitting_lengths.lengths.Reads as reads
-use Rattle.tables.proofs.fitting_lengths.lengths.Lts as lts
-use Rattle.tables.proofs.checks.check_prepare.Reads as check-prepare-reads
-use Rattle.tables.proofs.fitting_lengths.fit.Reads as fit-reads
 
--- src/fitting_lengths.rt:46:11
 check-prepare-requires : tie.Need-check-prepare-requires
 check-prepare-requires c κs = search needs
 
--- src/fitting_lengths.rt:47:26
 enum-known-why : tie.Need-enum-known-why
 enum-known-why c = search needs
 
--- src/fitting_lengths.rt:48:26
 enum-told : tie.Need-enum-told
 enum-told c = search needs
 
--- src/fitting_lengths.rt:48:26
 fit-requires : tie.Need-fit-requires
 fit-requires c κs = search needs
 
--- src/fitting_lengths.rt:34:1
 returns : tie.Need-returns
 returns c =
     let a = c .before .before .before .before .args in
     lengths-refused (a .m) (a .low) (a .high) (a .witness-i) (a .witness-j) (a .n) (a .survivors) (a .positions)
     (c .before .why .given .0 .0) (sym (c .before .why .given .1) ∙ c .before .before .before .check-prepare .ensures)
 
--- src/fitting_lengths.rt:34:1
 returns-2 : tie.Need-returns-2
 returns-2 c =
     let a = c .before .before .before .before .args in

@@ -1,6 +1,6 @@
 -- `check_tables` meets its contract: the lengths first, then the entries.
 -- Assumes nothing.
-use mathlib.Core.Path.{_≡_, sym, _∙_}
+use mathlib.Core.Path.{sym, _∙_}
 use Rattle.tables.proofs.Verdicts.{fine-accepted, prepare-room}
 use Rattle.tables.proofs.Promised.{tables-refused, tables-compared}
 use borrow.Author.Needs.{needs}

@@ -4,12 +4,10 @@ use Prim.Native.Nat.{ℕ, _≤_, _<_, _-_}
 use mathlib.Core.Path.{_≡_}
 use native.Mathlib.Omega.{arith}
 use borrow.Author.Count.{below-more}
-use lib.ListN.{length, getD}
+use lib.ListN.{getD}
 use borrow.Author.Needs.{needs}
 use Rattle.tables.proofs.own_tables.first_difference.Statement.{statement}
 use Rattle.tables.proofs.own_tables.first_difference.Tie as tie
-use Rattle.tables.proofs.own_tables.first_difference.Reads as reads
-use Rattle.tables.proofs.own_tables.first_difference.Lts as lts
 
 abbrev Inv-loop : tie.InvT-loop
 Inv-loop table own m k₀ k = (k ≤ m) × ((i : ℕ) → i < k → getD table i 0 ≡ getD own i 0)
@@ -17,47 +15,37 @@ Inv-loop table own m k₀ k = (k ≤ m) × ((i : ℕ) → i < k → getD table i
 abbrev μ-loop : tie.MeasureT-loop
 μ-loop table own m k₀ k = m - k
 
--- src/own_tables.rt:28:5
 loop-holds : tie.Need-loop-holds Inv-loop μ-loop
 loop-holds c = (search needs, λ i h. absurd (omega arith))
 
--- src/own_tables.rt:29:12
 mul-if1 : tie.Need-mul-if1 Inv-loop μ-loop
 mul-if1 c = search needs
 
--- src/own_tables.rt:29:12
 shared-slice-read-if1 : tie.Need-shared-slice-read-if1 Inv-loop μ-loop
 shared-slice-read-if1 c = search needs
 
--- src/own_tables.rt:29:24
 mul-if1-2 : tie.Need-mul-if1-2 Inv-loop μ-loop
 mul-if1-2 c = search needs
 
--- src/own_tables.rt:29:24
 shared-slice-read-if1-2 : tie.Need-shared-slice-read-if1-2 Inv-loop μ-loop
 shared-slice-read-if1-2 c = search needs
 
--- src/own_tables.rt:30:13
 returns : tie.Need-returns Inv-loop μ-loop
 returns c =
     let i = c .before .before .before .before .loop .inv in
     record { within = i .0; differs = λ h. c .if1 .taken; alike-before = i .1 }
 
--- src/own_tables.rt:32:9
 add-k : tie.Need-add-k Inv-loop μ-loop
 add-k c = search needs
 
--- src/own_tables.rt:28:5
 loop-less : tie.Need-loop-less Inv-loop μ-loop
 loop-less c = search needs
 
--- src/own_tables.rt:28:5
 loop-again : tie.Need-loop-again Inv-loop μ-loop
 loop-again c =
     let i = c .before .before .before .before .loop .inv in
     (search needs, below-more _ _ (i .1) (c .if1 .left))
 
--- src/own_tables.rt:23:1
 returns-2 : tie.Need-returns-2 Inv-loop μ-loop
 returns-2 c =
     let i = c .before .loop .inv in

@@ -5,77 +5,55 @@ use Rattle.tables.proofs.ForeignEntries.{against-own}
 use borrow.Author.Needs.{needs}
 use Rattle.tables.proofs.own_tables.first_foreign.Statement.{statement}
 use Rattle.tables.proofs.own_tables.first_foreign.Tie as tie
-use Rattle.tables.proofs.own_tables.first_foreign.Reads as reads
-use Rattle.tables.proofs.own_tables.first_foreign.Lts as lts
-use Rattle.tables.proofs.own_tables.first_difference.Reads as first-difference-reads
-use Rattle.order.proofs.smaller.Reads as smaller-reads
-use Rattle.tables.proofs.preparation.write_tables.Reads as write-tables-reads
 
--- src/own_tables.rt:47:27
 slice-aggregate-write-tables : tie.Need-slice-aggregate-write-tables
 slice-aggregate-write-tables c = search needs
 
--- src/own_tables.rt:47:41
 slice-aggregate-write-tables-2 : tie.Need-slice-aggregate-write-tables-2
 slice-aggregate-write-tables-2 c = search needs
 
--- src/own_tables.rt:47:56
 slice-aggregate-write-tables-3 : tie.Need-slice-aggregate-write-tables-3
 slice-aggregate-write-tables-3 c = search needs
 
--- src/own_tables.rt:47:68
 slice-aggregate-write-tables-4 : tie.Need-slice-aggregate-write-tables-4
 slice-aggregate-write-tables-4 c = search needs
 
--- src/own_tables.rt:47:5
 write-tables-requires : tie.Need-write-tables-requires
 write-tables-requires c κs = search needs
 
--- src/own_tables.rt:48:52
 slice-aggregate-first-difference : tie.Need-slice-aggregate-first-difference
 slice-aggregate-first-difference c = search needs
 
--- src/own_tables.rt:48:30
 first-difference-requires : tie.Need-first-difference-requires
 first-difference-requires c κs = search needs
 
--- src/own_tables.rt:48:89
 slice-aggregate-first-difference-2 : tie.Need-slice-aggregate-first-difference-2
 slice-aggregate-first-difference-2 c = search needs
 
--- src/own_tables.rt:48:66
 first-difference-requires-2 : tie.Need-first-difference-requires-2
 first-difference-requires-2 c κs = search needs
 
--- src/own_tables.rt:48:9
 smaller-requires : tie.Need-smaller-requires
 smaller-requires c κs = search needs
 
--- src/own_tables.rt:49:57
 slice-aggregate-first-difference-3 : tie.Need-slice-aggregate-first-difference-3
 slice-aggregate-first-difference-3 c = search needs
 
--- src/own_tables.rt:49:29
 first-difference-requires-3 : tie.Need-first-difference-requires-3
 first-difference-requires-3 c κs = search needs
 
--- src/own_tables.rt:49:97
 slice-aggregate-first-difference-4 : tie.Need-slice-aggregate-first-difference-4
 slice-aggregate-first-difference-4 c = search needs
 
--- src/own_tables.rt:49:69
 first-difference-requires-4 : tie.Need-first-difference-requires-4
 first-difference-requires-4 c κs = search needs
 
--- src/own_tables.rt:49:9
 smaller-requires-2 : tie.Need-smaller-requires-2
 smaller-requires-2 c κs = search needs
 
--- src/own_tables.rt:50:5
 smaller-requires-3 : tie.Need-smaller-requires-3
 smaller-requires-3 c κs = search needs
 
--- src/own_tables.rt:38:1
 returns : tie.Need-returns
 returns c =
     let s = c .before .before .before .before .before .before .before .before .before .before .before .before .before .before .before .before .before .before .before .before .before .before .before .before in
