@@ -1,5 +1,6 @@
 -- `agree` meets its contract: the sizes' verdict, and then the table's at the offset of the two starts.
 -- Assumes nothing.
+use mathlib.Core.Path.{sym, _∙_}
 use Rattle.tables.proofs.Verdicts.{fine-accepted, agree-room}
 use Rattle.search.proofs.Agreed.{agree-refused, agree-compared}
 use denote.Ref.{now}
@@ -24,13 +25,14 @@ between-requires c κs = search needs
 agree-at-requires : tie.Need-agree-at-requires
 agree-at-requires c κs =
     let a = c .before .before .before .before .before .before .args in
-    agree-room _ _ _ (fine-accepted (agreeVerdict (a .m) (length (now (a .witness-i))) (length (now (a .witness-j)))) (cc))
+    agree-room _ _ _ (fine-accepted (agreeVerdict (a .m) (length (now (a .witness-i))) (length (now (a .witness-j)))) (sym (c .before .enum-told .given .1) ∙ c .before .before .before .check-agree .ensures))
 
 returns : tie.Need-returns
-returns c = agree-refused _ _ _ _ _ _ (cc)
+returns c = agree-refused _ _ _ _ _ _ (sym (c .before .why .given .1) ∙ c .before .before .before .check-agree .ensures)
 
 returns-2 : tie.Need-returns-2
-returns-2 c = agree-compared _ _ _ _ _ _ _ (cc) (c .before .between .ensures) (c .agree-at .ensures)
+returns-2 c =
+    agree-compared _ _ _ _ _ _ _ (sym (c .before .before .enum-told .given .1) ∙ c .before .before .before .before .check-agree .ensures) (c .before .between .ensures) (c .agree-at .ensures)
 
 pub agree-spec : {M : Type 1} → statement M
 agree-spec =

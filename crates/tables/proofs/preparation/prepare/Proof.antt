@@ -1,5 +1,6 @@
 -- `prepare` meets its contract: the sizes' verdict, and then the tables.
 -- Assumes nothing.
+use mathlib.Core.Path.{sym, _∙_}
 use Rattle.tables.proofs.Verdicts.{fine-accepted, prepare-room}
 use Rattle.tables.proofs.Promised.{prepare-refused, prepare-done}
 use borrow.Author.Needs.{needs}
@@ -16,10 +17,11 @@ enum-told : tie.Need-enum-told
 enum-told c = search needs
 
 write-tables-requires : tie.Need-write-tables-requires
-write-tables-requires c κs = prepare-room _ _ _ _ _ (fine-accepted _ (cc))
+write-tables-requires c κs =
+    prepare-room _ _ _ _ _ (fine-accepted _ (sym (c .before .before .before .before .enum-told .given .1) ∙ c .before .before .before .before .before .before .check-prepare .ensures))
 
 returns : tie.Need-returns
-returns c = prepare-refused _ _ _ _ _ _ (cc)
+returns c = prepare-refused _ _ _ _ _ _ (sym (c .before .why .given .1) ∙ c .before .before .before .check-prepare .ensures)
 
 same-length : tie.Need-same-length
 same-length c = search needs
@@ -34,7 +36,9 @@ same-length-4 : tie.Need-same-length-4
 same-length-4 c = search needs
 
 returns-2 : tie.Need-returns-2
-returns-2 c = prepare-done _ _ _ _ _ (cc) (c .before .before .before .before .before .before .before .before .write-tables .ensures)
+returns-2 c =
+    prepare-done _ _ _ _ _ (sym (c .before .before .before .before .before .before .before .before .before .before .before .before .before .enum-told .given .1) ∙ c .before .before .before .before .before .before .before .before .before .before .before .before .before .before .before .check-prepare .ensures)
+    (c .before .before .before .before .before .before .before .before .write-tables .ensures)
 
 pub prepare-spec : {M : Type 1} → statement M
 prepare-spec =
