@@ -19,6 +19,7 @@ pub use limits::NONE;
 pub use limits::PATTERN_LIMIT;
 pub use limits::TRACE_LIMIT;
 pub use limits::UNUSED;
+pub use numbers::larger;
 pub use numbers::smaller;
 pub use numbers::wide16;
 pub use numbers::wide32;

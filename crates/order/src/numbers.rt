@@ -1,8 +1,8 @@
 // Table entries and windows as the machine's own whole numbers, which the rules don't tell apart: each is the same number in more
-// bits. And the smaller of two numbers. Follows docs/RULES.md, "Sizes". Each costs at most one step.
+// bits. And the smaller and the larger of two numbers. Follows docs/RULES.md, "Sizes". Each costs at most one step.
 
 ghost use mathlib.Core.Path.{_≡_};
-ghost use Prim.Native.Nat.{_<_, min};
+ghost use Prim.Native.Nat.{_<_, min, max};
 
 // A table's entry.
 pub fn wide16(entry: u16) -> usize
@@ -23,6 +23,16 @@ pub fn smaller(a: usize, b: usize) -> usize
     ensures { λ r. ⌜ r ≡ min a b ⌝ }
 {
     if a < b {
+        return a;
+    }
+    b
+}
+
+// The larger of two numbers.
+pub fn larger(a: usize, b: usize) -> usize
+    ensures { λ r. ⌜ r ≡ max a b ⌝ }
+{
+    if b < a {
         return a;
     }
     b

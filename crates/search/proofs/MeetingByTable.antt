@@ -16,7 +16,7 @@ use Rattle.order.specs.declared.steps.Meeting.the-variants.{Agree, NewerFalls}
 use Rattle.order.specs.Sizes.{Spot, none, place, at, entry, noPlace, patternLimit}
 use Rattle.order.specs.Relations.{rel, alike}
 use Rattle.order.specs.Witnesses.{witnessI, witnessJ}
-use Rattle.order.specs.Agree.{distance, isNone, agree}
+use Rattle.order.specs.Agree.{isNone, agree}
 use Rattle.order.specs.Duels.{fallen, duel, byWitness, meets}
 use Rattle.order.proofs.Tests.{must-fail}
 use Rattle.order.proofs.Orders.{alike-same}
@@ -68,10 +68,6 @@ by-entries P T x y h = go (witnessJ P (y - x)) refl
         let w = witness-is P (y - x) j e in
         duelling (rw (w .1, e) (w .2 .earlier)) (rw e (w .2 .inside)) (rw (w .1, e) (w .2 .differs))
         (rw (w .1, e, lt-leb (length P) (y - x) h) refl)
-
--- the distance of a window and a later one
-pub apart : (x y : ℕ) → x < y → distance x y ≡ y - x
-apart x y h = omega arith
 
 pub by-offset : {P : List ℤ} {wi wj : List ℕ} (T : List ℤ) (x y a : ℕ) → OwnWitnesses P wi wj → a ≡ y - x → a < length P
     → Entries P T x y (getD wi a 0) (getD wj a 0)

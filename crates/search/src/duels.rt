@@ -74,8 +74,7 @@ fn meet(
     requires { ⌜ Meetable (now pattern) (now «witness_i») (now «witness_j») (now codes) (now trace) (x .0) (y .0) ⌝ }
     ensures { λ r. ⌜ r ≡ meets (now (pattern .entry)) (now (trace .entry)) (x .0) (y .0) ⌝ }
 {
-    let apart = Offset::between(x, y);
-    let a = apart.0;
+    let a = y.0 - x.0;
     if pattern.len() <= a {
         return Meeting::Agree;
     }
@@ -88,7 +87,7 @@ fn meet(
         pattern,
         trace,
         y,
-        apart,
+        Offset(a),
         Place(wide16(i)),
         Place(wide16(j)),
         codes[a],

@@ -7,11 +7,12 @@
 use order::Place;
 use order::Tested;
 use order::Window;
+use order::larger;
 use order::test_place;
 use order::wide32;
 ghost use mathlib.Core.Path.{_≡_};
 ghost use mathlib.Core.Bool.{cond};
-ghost use Prim.Native.Nat.{_+_, _<_, max};
+ghost use Prim.Native.Nat.{_+_, _<_};
 ghost use lib.ListN.{length, set};
 ghost use Rattle.search.specs.Asked.{Sweepable, Sweeps};
 ghost use Rattle.search.specs.Sweeps.{SweptOne, SweepOf};
@@ -27,12 +28,6 @@ struct Reached {
 pub(crate) struct Swept {
     pub spent: u32,
     pub found: usize,
-}
-
-fn larger(a: usize, b: usize) -> usize
-    ensures { λ r. ⌜ r ≡ max a b ⌝ }
-{
-    if a < b { b } else { a }
 }
 
 // The tests of survivor x from the sample `from` on.

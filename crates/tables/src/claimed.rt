@@ -5,11 +5,12 @@
 // the compiler turns into steps of four samples. "No" only means that some entry is not shown to be right. No array is kept.
 
 use order::NONE;
+use order::larger;
 use order::smaller;
 use order::wide16;
 ghost use mathlib.Core.Path.{_≡_};
 ghost use mathlib.Core.Bool.{true};
-ghost use Prim.Native.Nat.{_<_, _≤_, max};
+ghost use Prim.Native.Nat.{_<_, _≤_};
 ghost use lib.ListN.{length};
 ghost use Rattle.order.specs.Sizes.{patternLimit};
 ghost use Rattle.tables.specs.Asked.{OwnNeighbours};
@@ -19,12 +20,6 @@ ghost use Rattle.tables.specs.Claims.{Outside, NoneWithin, Floor, Ceilin
 const LEAST: i32 = -2147483648;
 
 const GREATEST: i32 = 2147483647;
-
-fn larger(a: usize, b: usize) -> usize
-    ensures { λ r. ⌜ r ≡ max a b ⌝ }
-{
-    if a < b { b } else { a }
-}
 
 // Whether a sample lies below lo or above hi.
 fn outside(x: i32, lo: i32, hi: i32) -> bool
