@@ -5,8 +5,8 @@
  * the same order as the pattern's (equal samples count as equal). Both are proved to meet docs/RULES.md; docs/HOST.md tells how
  * to link and what is asked of the caller.
  *
- * Every buffer is a pointer and then a length in BYTES. Its entries are the whole ones in it; bytes left over at its end are
- * neither read nor written. All numbers are little-endian: samples are signed 32 bit in two's complement, table entries are
+ * Every buffer is a pointer and then a length in BYTES. It holds as many entries as fit into that length without being cut; what
+ * is too short for one more stays untouched and unread. All numbers are little-endian: samples are signed 32 bit in two's complement, table entries are
  * unsigned 16 bit, survivors, positions and counts are unsigned 32 bit. No alignment is asked.
  *
  * What the caller must see to: each pointer is valid for its length, and no two buffers of one call overlap. A length of 0 may go
