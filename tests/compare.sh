@@ -6,7 +6,16 @@ cd "$(dirname "$0")/.."
 work=$(mktemp -d)
 trap 'rm -rf "$work"' EXIT
 . host/compare/build.inc
-"${run[@]}" "$work/compare" --short --svg "$work/drawn.svg" >"$work/said"
-grep -q '^6 rows' "$work/said"
-python3 -c 'import sys, xml.dom.minidom; xml.dom.minidom.parse(sys.argv[1])' "$work/drawn.svg"
+
+short_rows() { # [RUNNER...]
+  "$@" "$work/compare" --short --svg "$work/drawn.svg" >"$work/said"
+  grep -q '^6 rows' "$work/said"
+  python3 -c 'import sys, xml.dom.minidom; xml.dom.minidom.parse(sys.argv[1])' "$work/drawn.svg"
+}
+build_for_x86
+short_rows "${run[@]}"
+if [ "$native" = no ]; then
+  build_for_here
+  short_rows
+fi
 echo "compare: the same answers from four matchers"

@@ -3,8 +3,8 @@
  * checked. Prints a table of ratios (ours / theirs; below 1 we are ahead), the worst and the geometric mean of each column, the
  * preparation, and the share of the tables' check. With --svg FILE it draws the ratios too.
  *
- *     compare [--svg FILE] [--short] [--emulated]   all rows, or one short row of each trace; --emulated says that times are no use
- *     compare --count WHO KIND M N CALLS            only makes CALLS calls of WHO (ours, same, kmp, naive): to count instructions
+ *     compare [--svg FILE] [--short] [--note TEXT]   all rows, or one short row of each trace; the note stands above table and picture
+ *     compare --count WHO KIND M N CALLS             only makes CALLS calls of WHO (ours, same, kmp, naive): to count instructions
  *
  * Each time is the best of 9 samples; a sample is as many calls as take a millisecond.
  */
@@ -293,7 +293,7 @@ static void draw_head(FILE *f, int height)
             LEFT + WIDE + 40, height);
     fprintf(f, "<rect width=\"100%%\" height=\"100%%\" fill=\"white\"/>\n");
     fprintf(f, "<text x=\"10\" y=\"20\" font-size=\"13\">Time of tension_search by the time of three matchers in C; left of 1 "
-               "we are ahead</text>\n<text x=\"10\" y=\"36\" fill=\"#b00\">%s</text>\n", note);
+               "we are ahead</text>\n<text x=\"10\" y=\"36\">%s</text>\n", note);
     fprintf(f, "<text x=\"10\" y=\"%d\">trace</text>\n", TOP - LINE - 4);
     draw_text(f, 110, TOP - LINE - 4, "black", "m");
     draw_text(f, 155, TOP - LINE - 4, "black", "n");
@@ -356,12 +356,12 @@ int main(int argc, char **argv)
     for (int k = 1; k < argc; k++) {
         if (!strcmp(argv[k], "--short"))
             shorter = 1;
-        else if (!strcmp(argv[k], "--emulated"))
-            note = "Run under an emulator: the answers are checked, but times and ratios say nothing.";
+        else if (!strcmp(argv[k], "--note") && k + 1 < argc)
+            note = argv[++k];
         else if (!strcmp(argv[k], "--svg") && k + 1 < argc)
             svg = argv[++k];
         else {
-            fprintf(stderr, "usage: %s [--svg FILE] [--short] [--emulated] | --count WHO KIND M N CALLS\n", argv[0]);
+            fprintf(stderr, "usage: %s [--svg FILE] [--short] [--note TEXT] | --count WHO KIND M N CALLS\n", argv[0]);
             return 2;
         }
     }

@@ -6,6 +6,7 @@ cd "$(dirname "$0")/../.."
 work=$(mktemp -d)
 trap 'rm -rf "$work"' EXIT
 . host/compare/build.inc
+build_for_x86
 
 # instructions PROGRAM ARGUMENT..: all that the program executes
 instructions() {

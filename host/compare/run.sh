@@ -2,10 +2,13 @@
 # `make compare`: all rows as a table, and drawn in target/compare.svg.
 set -euo pipefail
 cd "$(dirname "$0")/../.."
-work=target
-mkdir -p "$work"
+work=$(mktemp -d)
+trap 'rm -rf "$work"' EXIT
 . host/compare/build.inc
-emulated=()
-if [ "$native" = no ]; then emulated=(--emulated); fi
-"${run[@]}" "$work/compare" --svg target/compare.svg "${emulated[@]}"
+build_for_here
+note=()
+if [ "$native" = no ]; then
+  note=(--note "Timed as code for $(uname -m), made of the same module as the archive, which is x86-64 code.")
+fi
+"$work/compare" --svg target/compare.svg "${note[@]}"
 echo "drawn in target/compare.svg"
