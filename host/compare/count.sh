@@ -1,12 +1,16 @@
 #!/usr/bin/env bash
 # `make count`: the instructions of one call of tension_search and of one of the same algorithm in C, and their ratio, on three rows of
 # the comparison. Counted by valgrind where the machine is x86-64, elsewhere by a plugin of the emulator; no time comes into it.
+# Both count an instruction that repeats itself once a byte, which would make a buffer's clearing weigh as much as a search, so the C
+# library is told not to fill and copy by such instructions.
 set -euo pipefail
 cd "$(dirname "$0")/../.."
 work=$(mktemp -d)
 trap 'rm -rf "$work"' EXIT
 . host/compare/build.inc
 build_for_x86
+
+export GLIBC_TUNABLES=glibc.cpu.x86_rep_stosb_threshold=1073741824:glibc.cpu.x86_rep_movsb_threshold=1073741824
 
 # instructions PROGRAM ARGUMENT..: all that the program executes
 instructions() {

@@ -1,4 +1,4 @@
-// The calls of a C host, on little-endian bytes: preparation, and search in two sizes of local arrays.
+// The calls of a C host, on little-endian bytes: preparation, and search in three sizes of local arrays.
 //
 // Follows docs/RULES.md, "The C entry points". Lengths are checked, bytes become numbers in local arrays, the crate `search` is
 // called, and what it wrote becomes bytes again. The stack that each call takes is said in its file. The exported functions are in

@@ -1,9 +1,9 @@
-// A search for a C host, in two sizes of local arrays: a small call does not pay for the large ones.
+// A search for a C host, in three sizes of local arrays, since every array is cleared first: a small call does not pay for large ones.
 //
 // Follows docs/RULES.md, "The C entry points", "What is written" and "Refusals", numbers 1 to 7. The lengths are checked before
 // anything is converted, and the tables before anything is written, so a refused call has written no byte. An accepted one takes
 // what `search::search` does and a turn for each sample and entry. Stack: 12 KB for the pattern and its tables, and for the trace
-// and the two lists 24 KB up to 2,048 samples and 768 KB above.
+// and the two lists up to 24 KB for 2,048 samples and 768 KB above.
 
 use crate::reading::all_samples;
 use crate::searching::search_samples;
@@ -15,7 +15,9 @@ ghost use lib.ListN.{length};
 ghost use Rattle.host_calls.specs.HostPromises.{HostSearch};
 ghost use Rattle.host_calls.specs.Inside.{Fits, Arrays};
 
-// The longest trace of a small call, in samples.
+// The longest traces of the two kinds of small calls, in samples.
+const BRIEF: usize = 256;
+
 const SMALL: usize = 2048;
 
 // Searches in arrays for any trace of their size.
@@ -60,6 +62,43 @@ fn search_in(
     )
 }
 
+// Up to 256 samples.
+fn search_brief(
+    pattern: &[u8],
+    low: &[u8],
+    high: &[u8],
+    witness_i: &[u8],
+    witness_j: &[u8],
+    trace: &[u8],
+    survivors: &mut [u8],
+    positions: &mut [u8],
+    counts: &mut [u8],
+    windows: usize,
+) -> u64
+    requires { ⌜ length (now trace) / 4 ≤ 256 ⌝ }
+    requires { ⌜ Fits (length (now pattern)) (length (now low)) (length (now high)) (length (now «witness_i»)) (length (now «witness_j»)) (length (now trace)) (length (now survivors)) (length (now positions)) windows ⌝ }
+    ensures { λ r. ⌜ HostSearch (now (pattern .entry)) (now (low .entry)) (now (high .entry)) (now («witness_i» .entry)) (now («witness_j» .entry)) (now (trace .entry)) (now (survivors .entry)) (now (positions .entry)) (now (counts .entry)) r (now (survivors .exit)) (now (positions .exit)) (now (counts .exit)) ⌝ }
+{
+    let mut samples = [0i32; 256];
+    let mut kept = [0u32; 256];
+    let mut listed = [0u32; 256];
+    search_in(
+        pattern,
+        low,
+        high,
+        witness_i,
+        witness_j,
+        trace,
+        &mut samples,
+        &mut kept,
+        &mut listed,
+        survivors,
+        positions,
+        counts,
+        windows,
+    )
+}
+
 // Up to 2,048 samples.
 fn search_short(
     pattern: &[u8],
@@ -90,6 +129,52 @@ fn search_short(
         &mut samples,
         &mut kept,
         &mut listed,
+        survivors,
+        positions,
+        counts,
+        windows,
+    )
+}
+
+// A small call.
+fn search_small(
+    pattern: &[u8],
+    low: &[u8],
+    high: &[u8],
+    witness_i: &[u8],
+    witness_j: &[u8],
+    trace: &[u8],
+    survivors: &mut [u8],
+    positions: &mut [u8],
+    counts: &mut [u8],
+    windows: usize,
+) -> u64
+    requires { ⌜ length (now trace) / 4 ≤ 2048 ⌝ }
+    requires { ⌜ Fits (length (now pattern)) (length (now low)) (length (now high)) (length (now «witness_i»)) (length (now «witness_j»)) (length (now trace)) (length (now survivors)) (length (now positions)) windows ⌝ }
+    ensures { λ r. ⌜ HostSearch (now (pattern .entry)) (now (low .entry)) (now (high .entry)) (now («witness_i» .entry)) (now («witness_j» .entry)) (now (trace .entry)) (now (survivors .entry)) (now (positions .entry)) (now (counts .entry)) r (now (survivors .exit)) (now (positions .exit)) (now (counts .exit)) ⌝ }
+{
+    let n = trace.len() / 4;
+    if BRIEF < n {
+        return search_short(
+            pattern,
+            low,
+            high,
+            witness_i,
+            witness_j,
+            trace,
+            survivors,
+            positions,
+            counts,
+            windows,
+        );
+    }
+    search_brief(
+        pattern,
+        low,
+        high,
+        witness_i,
+        witness_j,
+        trace,
         survivors,
         positions,
         counts,
@@ -213,7 +298,7 @@ pub fn search(
         positions.len() / 4,
     ) {
         Fitting::Refused(why) => coded(why),
-        Fitting::Fit(windows) => search_short(
+        Fitting::Fit(windows) => search_small(
             pattern,
             low,
             high,

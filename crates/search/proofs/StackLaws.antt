@@ -1,5 +1,5 @@
 -- Shows: the survivors buffer is the rules' stack at every step of the duels: what a look at its top leaves, what an arrival
--- leaves, and that what it holds when all windows have arrived are the survivors.
+-- leaves, and that what it holds when all windows have arrived are the survivors; where each window agrees with the next, all do.
 -- Assumes nothing.
 use Prim.Native.Nat.{ℕ, zero, suc, _+_, _-_, _≤_, _<_}
 use mathlib.Core.Path.{_≡_, refl, sym, _∙_, ap, ap₂, subst}
@@ -20,6 +20,7 @@ use Rattle.order.proofs.Lists.{reverse-cons, those-suc, windowsOf-as}
 use Rattle.order.proofs.Dueling.{rules-fair, ended, arrive-append}
 use Rattle.search.specs.declared.duels.Arrival.{Arrival}
 use Rattle.search.specs.declared.duels.Arrival.the-variants.{Pushed, Dropped}
+use Rattle.search.specs.Asked.{SideBySide}
 use Rattle.search.specs.Stacks.{top, DuelsOf}
 
 -- ---- a buffer as a stack
@@ -223,6 +224,39 @@ all-arrived {P} {T} {windows} {y = y} s h e =
     let w = s .within in
     let same : windowsOf (length P) (length T) ≡ y = omega arith in
     record { result = rw same (s .stack); beyond = s .beyond; same-length = s .long }
+
+-- ---- arrivals with no duel
+
+-- the windows below y have arrived and all are kept, so the one on top starts a sample before y
+pub record AllKept (P T : List ℤ) (windows : ℕ) (before l : List ℕ) (y : ℕ) : Type 0 where
+  pub standing : Standing P T windows before l y 0 y
+  pub last : 0 < y → getD l (y - 1) 0 ≡ y - 1
+
+pub none-yet : (P T : List ℤ) (windows : ℕ) (l : List ℕ) → AllKept P T windows l l 0
+none-yet P T windows l = record { standing = at-first P T windows l; last = λ h. absurd (omega arith) }
+
+module _ {P T : List ℤ} {windows : ℕ} {before l : List ℕ} (side : SideBySide P) where
+  settle-side : (y : ℕ) → AllKept P T windows before l y → Settled P T l y y 0 y 0 Pushed
+  settle-side zero k = settle-empty (looking (k .standing)) refl
+  settle-side (suc n) k =
+      settle-agree {x = n} (looking (k .standing)) (λ e. omega arith) (let e = k .last (omega arith) in omega arith) (rw add-one at (side .agreeing T n))
+
+  pub one-kept : {y : ℕ} → AllKept P T windows before l y → y < windows → windows ≤ length before → AllKept P T windows before (set l y y) (y + 1)
+  one-kept {y} k h room =
+      let long = k .standing .long in
+      let in-buffer : y < length l = omega arith in
+      let same : y + 1 - 1 ≡ y = omega arith in
+      record {
+        standing = pushed-next (k .standing) h room (settle-side y k);
+        last = λ p. rw same (getD-set-same l y y 0 in-buffer);
+      }
+
+pub all-kept : {P T : List ℤ} {windows : ℕ} {before l : List ℕ} {y : ℕ} → AllKept P T windows before l y → windows ≤ y → windows ≡ windowsOf (length P) (length T)
+    → DuelsOf P T windows before l windows 0
+all-kept {P} {T} {windows} {before} {l} {y} k h e =
+    let w = k .standing .within in
+    let same : y ≡ windows = omega arith in
+    subst (λ (n : ℕ). DuelsOf P T windows before l n 0) same (all-arrived (k .standing) h e)
 
 -- the same under other names of its numbers
 pub settled-as : {P T : List ℤ} {l : List ℕ} {y k₀ d₀ k d k' d' : ℕ} {a a' : Arrival} → k ≡ k' → d ≡ d' → a ≡ a' → Settled P T l y k₀ d₀ k' d' a' → Settled P T l y k₀ d₀ k d a

@@ -39,6 +39,19 @@ own-test {P} {low} {high} T x j own h k =
     same : (i : ℕ) → i < length P → at (take (x + length P - x) (drop x T)) i ≡ at (drop x T) i
     same i e = getD-take (x + length P - x) (drop x T) i (pos 0) (omega arith)
 
+-- a test costs at most 2
+module _ (P U : List ℤ) (j : ℕ) where
+  cheap : (t : Tested) → testOf P U j ≡ t → cost t ≤ 2
+  cheap t q = subst (λ (r : Tested). cost r ≤ 2) q (test-cost P U j)
+
+  pub cheap-pass : (c : ℕ) → testOf P U j ≡ Passed c → c ≤ 2
+  unfolding cost
+  cheap-pass c q = cheap (Passed c) q
+
+  pub cheap-fail : (c n : ℕ) → testOf P U j ≡ Failed c n → c ≤ 2
+  unfolding cost
+  cheap-fail c n q = cheap (Failed c n) q
+
 -- ---- the tests of one survivor
 
 -- the tests from `from` on have come to `reach`
@@ -61,9 +74,6 @@ module _ {P T : List ℤ} {x from before e w : ℕ} (i : Sweeping P T x from bef
   left : x + length P - e ≡ suc (x + length P - (e + 1))
   left = omega arith
 
-  cheap : (t : Tested) → testOf P (drop x T) (e - x) ≡ t → cost t ≤ 2
-  cheap t q = subst (λ (r : Tested). cost r ≤ 2) q (test-cost P (drop x T) (e - x))
-
   pub passed-on : (c : ℕ) → testOf P (drop x T) (e - x) ≡ Passed c → Sweeping P T x from before (e + 1) (w + c)
   unfolding onTest cost
   passed-on c q =
@@ -71,7 +81,7 @@ module _ {P T : List ℤ} {x from before e w : ℕ} (i : Sweeping P T x from bef
         same = λ l. i .same l ∙ a-test P T x e w (x + length P - (e + 1)) l (Passed c) q left;
         onward = let o = i .onward in omega arith;
         until = let u = i .until in omega arith;
-        bound = let b = i .bound in let o = i .onward in let k : c ≤ 2 = cheap (Passed c) q in omega arith;
+        bound = let b = i .bound in let o = i .onward in let k = cheap-pass P (drop x T) (e - x) c q in omega arith;
       }
 
   pub ended-there : (c n : ℕ) → testOf P (drop x T) (e - x) ≡ Failed c n → SweptOne P T x from before e (w + c) false
@@ -81,17 +91,8 @@ module _ {P T : List ℤ} {x from before e w : ℕ} (i : Sweeping P T x from bef
         result = λ l. i .same l ∙ a-test P T x e w (x + length P - (e + 1)) l (Failed c n) q left ∙ ap (swept e (w + c)) (sym (append-nil l));
         onward = i .onward;
         until = i .until;
-        bound = let b = i .bound in let k : c ≤ 2 = cheap (Failed c n) q in omega arith;
+        bound = let b = i .bound in let k = cheap-fail P (drop x T) (e - x) c n q in omega arith;
       }
-
-  -- a test costs at most 2
-  pub cheap-pass : (c : ℕ) → testOf P (drop x T) (e - x) ≡ Passed c → c ≤ 2
-  unfolding cost
-  cheap-pass c q = cheap (Passed c) q
-
-  pub cheap-fail : (c n : ℕ) → testOf P (drop x T) (e - x) ≡ Failed c n → c ≤ 2
-  unfolding cost
-  cheap-fail c n q = cheap (Failed c n) q
 
 pub came-through : {P T : List ℤ} {x from before e w : ℕ} → Sweeping P T x from before e w → x + length P ≤ e → SweptOne P T x from before e w true
 unfolding tests
@@ -103,6 +104,19 @@ came-through {P} {x = x} {e = e} i h =
       until = i .until;
       bound = let b = i .bound in omega arith;
     }
+
+-- the last place alone is left
+module _ (P T : List ℤ) {x from : ℕ} (before : ℕ) (begun : x ≤ from) (last : from + 1 ≡ x + length P) where
+  test-there : {t : Tested} → testOf P (drop x T) (length P - 1) ≡ t → testOf P (drop x T) (from - x) ≡ t
+  test-there q = let e : from - x ≡ length P - 1 = omega arith in ap (testOf P (drop x T)) e ∙ q
+
+  pub last-passed : (c : ℕ) → testOf P (drop x T) (length P - 1) ≡ Passed c → SweptOne P T x from before (x + length P) (before + c) true
+  last-passed c q =
+      subst (λ (e : ℕ). SweptOne P T x from before e (before + c) true) last
+      (came-through (passed-on (begin P T x from before) (omega arith) c (test-there q)) (omega arith))
+
+  pub last-failed : (c n : ℕ) → testOf P (drop x T) (length P - 1) ≡ Failed c n → SweptOne P T x from before from (before + c) false
+  last-failed c n q = ended-there (begin P T x from before) (omega arith) c n (test-there q)
 
 -- ---- all survivors
 

@@ -8,7 +8,8 @@ use Rattle.order.specs.Sizes.{entry, patternLimit, at, traceLimit, windowsOf}
 use Rattle.order.specs.Relations.{rel}
 use Rattle.order.specs.Witnesses.{witnessI, witnessJ}
 use Rattle.order.specs.Written.{over, countsOf, filled}
-use Rattle.order.specs.Duels.{duels, survivors}
+use Rattle.order.specs.declared.steps.Meeting.the-variants.{Agree}
+use Rattle.order.specs.Duels.{meets, duels, survivors}
 use Rattle.order.specs.Sweeping.{sweepCost, positions}
 use Rattle.order.specs.declared.steps.Counts.{Counts}
 use Rattle.tables.specs.Asked.{OwnNeighbours}
@@ -37,6 +38,10 @@ pub record Meetable (P : List ℤ) (wi wj codes : List ℕ) (T : List ℤ) (x y 
   pub later : x < y
   pub inside : y + length P ≤ length T
 
+-- each window of any trace agrees with the next
+pub record SideBySide (P : List ℤ) : Type 0 where
+  pub agreeing : (T : List ℤ) (x : ℕ) → meets P T x (x + 1) ≡ Agree
+
 -- all windows, and a buffer with room for them
 pub record Duels (P : List ℤ) (wi wj : List ℕ) (T : List ℤ) (windows : ℕ) (before : List ℕ) : Type 0 where
   pub own : OwnWitnesses P wi wj
@@ -50,6 +55,7 @@ pub record Sweepable (P : List ℤ) (low high : List ℕ) (T : List ℤ) (x from
   pub trace : length T ≤ traceLimit
   pub inside : x + length P ≤ length T
   pub begun : x ≤ from
+  pub reached : from ≤ length T
   pub small : before ≤ 1000000
 
 -- the survivors, in the first entries of their buffer, and a buffer with room for them

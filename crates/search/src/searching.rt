@@ -5,14 +5,12 @@
 // N + 2(n + S) comparisons; the check of the tables takes what preparing them does.
 
 use crate::answers::Searched;
-use crate::codes::write_codes;
 use crate::duels::Duelled;
-use crate::duels::duel_all;
+use crate::duels::duel_windows;
 use crate::sweep::Swept;
 use crate::sweep::sweep_all;
 use crate::unused_entries::fill_unused;
 use order::Counts;
-use order::PATTERN_LIMIT;
 use tables::Checked;
 use tables::Fitting;
 ghost use mathlib.Core.Path.{_≡_};
@@ -68,17 +66,7 @@ fn find_survivors(
     requires { ⌜ Duels (now pattern) (now «witness_i») (now «witness_j») (now trace) windows (now survivors) ⌝ }
     ensures { λ r. ⌜ SurvivorsOf (now (pattern .entry)) (now (trace .entry)) (now (survivors .entry)) (now (survivors .exit)) (r .kept) (r .fought) ⌝ }
 {
-    let mut codes = [0u8; PATTERN_LIMIT];
-    write_codes(pattern, witness_i, witness_j, &mut codes);
-    let end = duel_all(
-        pattern,
-        witness_i,
-        witness_j,
-        &codes,
-        trace,
-        windows,
-        survivors,
-    );
+    let end = duel_windows(pattern, witness_i, witness_j, trace, windows, survivors);
     let kept = end.kept;
     fill_unused(survivors, kept, windows);
     end

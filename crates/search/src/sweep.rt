@@ -71,6 +71,57 @@ fn sweep_one(
     }
 }
 
+// The test of survivor x where its last place alone is left.
+fn sweep_last(
+    pattern: &[i32],
+    low: &[u16],
+    high: &[u16],
+    trace: &[i32],
+    x: Window,
+    from: usize,
+    before: u32,
+) -> Reached
+    requires { ⌜ Sweepable (now pattern) (now low) (now high) (now trace) (x .0) from before × (from + 1 ≡ x .0 + length (now pattern)) ⌝ }
+    ensures { λ r. ⌜ SweptOne (now (pattern .entry)) (now (trace .entry)) (x .0) from before (r .reach) (r .spent) (r .whole) ⌝ }
+{
+    let start = x.0;
+    let stop = start + pattern.len();
+    let window = &trace[start..stop];
+    let last = pattern.len() - 1;
+    match test_place(low[last], high[last], window, Place(last)) {
+        Tested::Passed(cost) => Reached {
+            reach: stop,
+            spent: before + cost,
+            whole: true,
+        },
+        Tested::Failed(cost, _) => Reached {
+            reach: from,
+            spent: before + cost,
+            whole: false,
+        },
+    }
+}
+
+// The tests of survivor x from the sample `from` on. A window that starts a sample after one that was listed has its last place
+// left; in a run of such windows no loop is entered.
+fn sweep_from(
+    pattern: &[i32],
+    low: &[u16],
+    high: &[u16],
+    trace: &[i32],
+    x: Window,
+    from: usize,
+    before: u32,
+) -> Reached
+    requires { ⌜ Sweepable (now pattern) (now low) (now high) (now trace) (x .0) from before ⌝ }
+    ensures { λ r. ⌜ SweptOne (now (pattern .entry)) (now (trace .entry)) (x .0) from before (r .reach) (r .spent) (r .whole) ⌝ }
+{
+    if from + 1 == x.0 + pattern.len() {
+        return sweep_last(pattern, low, high, trace, x, from, before);
+    }
+    sweep_one(pattern, low, high, trace, x, from, before)
+}
+
 // Lists a window that passed all its places, and answers how many are listed then.
 fn list_one(positions: &mut [u32], found: usize, x: u32, whole: bool) -> usize
     requires { ⌜ found < length (now positions) ⌝ }
@@ -103,7 +154,7 @@ pub(crate) fn sweep_all(
     while k < kept {
         let x = survivors[k];
         let start = wide32(x);
-        let end = sweep_one(
+        let end = sweep_from(
             pattern,
             low,
             high,

@@ -35,8 +35,8 @@ coded-requires c κs = search needs
 enum-known-windows : tie.Need-enum-known-windows
 enum-known-windows c = search needs
 
-search-short-requires : tie.Need-search-short-requires
-search-short-requires c κs =
+search-small-requires : tie.Need-search-small-requires
+search-small-requires c κs =
     let a = c .before .before .before .before .before .before .before .before .before .before .before .before .before .before .before .before .before .args in
     (search needs, search-fits (now (a .pattern)) (now (a .low)) (now (a .high)) (now (a .witness-i)) (now (a .witness-j)) (now (a .trace)) (now (a .survivors)) (now (a .positions)) (now (a .counts)) _ (c .before .before .before .before .before .before .lengths .ensures) (c .before .before .before .before .windows .given .1))
 
@@ -56,7 +56,7 @@ same-length-6 c = search needs
 
 returns-3 : tie.Need-returns-3
 returns-3 c =
-    c .before .before .before .before .before .before .search-short .ensures
+    c .before .before .before .before .before .before .search-small .ensures
 
 pub search-spec : {M : Type 1} → statement M
 search-spec =
@@ -71,7 +71,7 @@ search-spec =
     enum-known-why
     coded-requires
     enum-known-windows
-    search-short-requires
+    search-small-requires
     returns-2
     same-length-4
     same-length-5

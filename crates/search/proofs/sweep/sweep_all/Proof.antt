@@ -57,8 +57,8 @@ wide32-requires c κs = search needs
 larger-requires : tie.Need-larger-requires Inv-loop μ-loop
 larger-requires c κs = search needs
 
-sweep-one-requires : tie.Need-sweep-one-requires Inv-loop μ-loop
-sweep-one-requires c κs =
+sweep-from-requires : tie.Need-sweep-from-requires Inv-loop μ-loop
+sweep-from-requires c κs =
     let s = c .before .before .before .before .before .before .before .before .before in
     let l = c .before .before .before .before in
     let h = c .before .before .before .loop-test .taken in
@@ -69,7 +69,7 @@ sweep-one-requires c κs =
     let x = c .before .wide32 .ensures .0 in
     let e = survivor (c .before .before .before) in
     let g = c .larger .ensures in
-    record { own = s .pre .own; trace = t; inside = omega arith; begun = omega arith; small = omega (arith, few-kept s) }
+    record { own = s .pre .own; trace = t; inside = omega arith; begun = omega arith; reached = omega arith; small = omega (arith, few-kept s) }
 
 list-one-requires : tie.Need-list-one-requires Inv-loop μ-loop
 list-one-requires c κs =
@@ -95,7 +95,7 @@ loop-again c =
     let e = entry-of (now (s .args .pattern)) (now (s .args .trace)) (s .args .kept) (now (s .args .survivors)) (c .before .before .before .before .before .before .before .before .before .loop .k) (s .pre .held) h in
     rw (c .before .before .list-one .ensures .0, c .before .before .list-one .ensures .1)
     (next-swept i h (number s) e (s .pre .room)
-    (swept-as (c .before .before .before .before .before .before .before .before .before .loop .reach) (c .before .before .before .before .before .before .wide32 .ensures .0) (c .before .before .before .before .before .larger .ensures) (c .before .before .before .before .sweep-one .ensures)) (survivor (c .before .before .before .before .before .before .before .before)))
+    (swept-as (c .before .before .before .before .before .before .before .before .before .loop .reach) (c .before .before .before .before .before .before .wide32 .ensures .0) (c .before .before .before .before .before .larger .ensures) (c .before .before .before .before .sweep-from .ensures)) (survivor (c .before .before .before .before .before .before .before .before)))
 
 same-length : tie.Need-same-length Inv-loop μ-loop
 same-length c = c .before .loop .inv .long
@@ -114,7 +114,7 @@ sweep-all-spec =
     shared-slice-read-x
     wide32-requires
     larger-requires
-    sweep-one-requires
+    sweep-from-requires
     list-one-requires
     add-k
     loop-less

@@ -4,7 +4,7 @@ use Prim.Native.Nat.{_<_, _-_}
 use mathlib.Core.Path.{sym, _∙_}
 use native.Mathlib.Omega.{arith}
 use denote.Ref.{now}
-use lib.ListN.{length}
+use lib.ListN.{length, drop}
 use Rattle.search.proofs.SweepSteps.{own-test, Sweeping, begin, passed-on, ended-there, came-through, cheap-pass, cheap-fail}
 use borrow.Author.Needs.{needs}
 use Rattle.search.proofs.sweep.sweep_one.Statement.{statement}
@@ -66,7 +66,7 @@ add-spent c =
     let b = i .bound in
     let m = s .pre .small in
     let l = s .pre .own .limit in
-    let k = cheap-pass i t (c .before .cost .given .0 .0) (sym (own-test (now (s .args .trace)) (s .args .x .0) (c .before .before .before .before .before .before .before .loop .reach - s .args .x .0) (s .pre .own) (s .pre .inside) h) ∙ sym (c .before .before .before .test-place .ensures) ∙ c .before .cost .given .1) in
+    let k = cheap-pass (now (s .args .pattern)) (drop (s .args .x .0) (now (s .args .trace))) (c .before .before .before .before .before .before .before .loop .reach - s .args .x .0) (c .before .cost .given .0 .0) (sym (own-test (now (s .args .trace)) (s .args .x .0) (c .before .before .before .before .before .before .before .loop .reach - s .args .x .0) (s .pre .own) (s .pre .inside) h) ∙ sym (c .before .before .before .test-place .ensures) ∙ c .before .cost .given .1) in
     omega arith
 
 add-reach : tie.Need-add-reach Inv-loop μ-loop
@@ -99,7 +99,7 @@ add-t29 c =
     let b = i .bound in
     let m = s .pre .small in
     let l = s .pre .own .limit in
-    let k = cheap-fail i t (c .before .cost2 .given .0 .0) (c .before .cost2 .given .0 .1 .0) (sym (own-test (now (s .args .trace)) (s .args .x .0) (c .before .before .before .before .before .before .before .loop .reach - s .args .x .0) (s .pre .own) (s .pre .inside) h) ∙ sym (c .before .before .before .test-place .ensures) ∙ c .before .cost2 .given .1) in
+    let k = cheap-fail (now (s .args .pattern)) (drop (s .args .x .0) (now (s .args .trace))) (c .before .before .before .before .before .before .before .loop .reach - s .args .x .0) (c .before .cost2 .given .0 .0) (c .before .cost2 .given .0 .1 .0) (sym (own-test (now (s .args .trace)) (s .args .x .0) (c .before .before .before .before .before .before .before .loop .reach - s .args .x .0) (s .pre .own) (s .pre .inside) h) ∙ sym (c .before .before .before .test-place .ensures) ∙ c .before .cost2 .given .1) in
     omega arith
 
 returns : tie.Need-returns Inv-loop μ-loop
