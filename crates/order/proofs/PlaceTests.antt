@@ -267,11 +267,16 @@ unfolding thenHigh
 then-depends P v w j low high (Failed c i) f = refl
 then-depends P v w j low high (Passed c) f = rw (against-depends P v w j c high f) refl
 
-pub test-depends : (P v w : List ℤ) (j : ℕ) → ((i : ℕ) → i < j → rel (at v j) (at v i) ≡ rel (at w j) (at w i)) → testOf P v j ≡ testOf P w j
+-- on how it compares with the two neighbours' places alone
+pub test-by-neighbours : (P v w : List ℤ) (j : ℕ) → ((i : ℕ) → lowOf P j ≡ place i → rel (at v j) (at v i) ≡ rel (at w j) (at w i))
+    → ((i : ℕ) → highOf P j ≡ place i → rel (at v j) (at v i) ≡ rel (at w j) (at w i)) → testOf P v j ≡ testOf P w j
 unfolding testOf
-test-depends P v w j f =
-    ap (thenHigh P v j (lowOf P j) (highOf P j)) (against-depends P v w j 0 (lowOf P j) (λ i e. f i (low-earlier P j i e))) ∙
-    then-depends P v w j (lowOf P j) (highOf P j) (against P w j 0 (lowOf P j)) (λ i e. f i (high-earlier P j i e))
+test-by-neighbours P v w j f g =
+    ap (thenHigh P v j (lowOf P j) (highOf P j)) (against-depends P v w j 0 (lowOf P j) f) ∙
+    then-depends P v w j (lowOf P j) (highOf P j) (against P w j 0 (lowOf P j)) g
+
+pub test-depends : (P v w : List ℤ) (j : ℕ) → ((i : ℕ) → i < j → rel (at v j) (at v i) ≡ rel (at w j) (at w i)) → testOf P v j ≡ testOf P w j
+test-depends P v w j f = test-by-neighbours P v w j (λ i e. f i (low-earlier P j i e)) (λ i e. f i (high-earlier P j i e))
 
 -- a test that fails does so at an earlier place, which compares differently
 pub record FailsAt (P v : List ℤ) (j i : ℕ) : Type 0 where

@@ -5,6 +5,7 @@ pub mod MeetingByTable
 pub mod CodeLaws
 pub mod StackLaws
 pub mod SweepSteps
+pub mod RunLaws
 pub mod FilledUp
 pub mod WrittenOut
 pub mod SearchLaws

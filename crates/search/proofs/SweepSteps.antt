@@ -216,7 +216,7 @@ entry-of P T kept buffer k e h = sym (getD-take kept buffer k 0 h) ∙ ap (λ l.
 pub kept-number : (P T : List ℤ) (kept : ℕ) (buffer : List ℕ) → take kept buffer ≡ survivors P T → kept ≤ length buffer → kept ≡ length (survivors P T)
 kept-number P T kept buffer e h = sym (length-take-le kept buffer h) ∙ ap length e
 
-mem-at : (xs : List ℕ) (k : ℕ) → k < length xs → List·Memᴰ (getD xs k 0) xs
+pub mem-at : (xs : List ℕ) (k : ℕ) → k < length xs → List·Memᴰ (getD xs k 0) xs
 mem-at [] k h = absurd (omega arith)
 mem-at (x ∷ xs) zero h = List·Memᴰ·head refl
 mem-at (x ∷ xs) (suc k) h = List·Memᴰ·tail (mem-at xs k (omega arith))

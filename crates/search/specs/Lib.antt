@@ -6,4 +6,5 @@ pub mod Codes
 pub mod Asked
 pub mod Stacks
 pub mod Sweeps
+pub mod Runs
 pub mod SearchPromise

@@ -7,6 +7,7 @@ mod answers;
 mod checks;
 mod codes;
 mod duels;
+mod runs;
 mod searching;
 mod sweep;
 mod unused_entries;

@@ -4,6 +4,8 @@
 // Follows docs/RULES.md, "Sweep" (Jargalsaikhan 2022, section 3, counted from zero). E only rises and each survivor fails at
 // most once, so the sweep spends at most 2(n + S) comparisons. Callers hand over the pattern's own tables and its survivors.
 
+use crate::runs::list_run;
+use crate::runs::look_ahead;
 use order::Place;
 use order::Tested;
 use order::Window;
@@ -150,23 +152,34 @@ pub(crate) fn sweep_all(
     let mut reach: usize = 0;
     let mut spent: u32 = 0;
     let mut found: usize = 0;
+    let mut next: usize = 0;
     let mut k: usize = 0;
     while k < kept {
         let x = survivors[k];
         let start = wide32(x);
-        let end = sweep_from(
+        let from = larger(reach, start);
+        let end = sweep_from(pattern, low, high, trace, Window(start), from, spent);
+        found = list_one(positions, found, x, end.whole);
+        let run = look_ahead(
             pattern,
             low,
             high,
             trace,
+            survivors,
+            kept,
+            k,
             Window(start),
-            larger(reach, start),
-            spent,
+            from,
+            end.reach,
+            next,
         );
-        reach = end.reach;
-        spent = end.spent;
-        found = list_one(positions, found, x, end.whole);
         k += 1;
+        list_run(survivors, k, run.windows, positions, found);
+        k += run.windows;
+        reach = end.reach + run.windows;
+        spent = end.spent + run.spent;
+        found += run.windows;
+        next = run.next;
     }
     Swept { spent, found }
 }

@@ -1,0 +1,172 @@
+// Runs of the sweep: survivors that start one after the other, of which each has its last place alone left, passed a block at a time.
+//
+// Follows docs/RULES.md, "Sweep". A window passes its last place, and at the same cost, if it compares there with its neighbours as a
+// window does that has passed. A block's windows are compared in loops with no test inside, which the compiler turns into steps of
+// four samples; where one fails, the tests are left to the sweep, and the next block is tried a block later.
+
+use order::Place;
+use order::Tested;
+use order::Window;
+use order::smaller;
+use order::test_place;
+use order::wide16;
+use order::wide32;
+ghost use mathlib.Core.Path.{_≡_};
+ghost use mathlib.Core.Bool.{true};
+ghost use Prim.Native.Nat.{_+_, _≤_, _<_, min};
+ghost use lib.ListN.{length, getD};
+ghost use Rattle.order.specs.Relations.{rel};
+ghost use Rattle.search.specs.Runs.{AlikeOn, Ahead, RunOf, listedRun};
+
+// The windows of a block.
+const BLOCK: usize = 64;
+
+// Survivors that need no tests: how many, what theirs would have cost, and the first survivor after which to look for more.
+pub(crate) struct Run {
+    pub windows: usize,
+    pub spent: u32,
+    pub next: usize,
+}
+
+// Whether a compares with b as c does with d.
+fn alike(a: i32, b: i32, c: i32, d: i32) -> bool
+    ensures { λ r. ⌜ (r ≡ true → rel a b ≡ rel c d) ⌝ }
+{
+    ((a < b) == (c < d)) & ((b < a) == (d < c))
+}
+
+// Whether each of the count windows after window w compares at places j and i as w does.
+fn alike_on(trace: &[i32], w: usize, count: usize, j: usize, i: usize) -> bool
+    requires { ⌜ (w + count + j < length (now trace)) × (w + count + i < length (now trace)) × (length (now trace) ≤ 65536) ⌝ }
+    ensures { λ r. ⌜ (r ≡ true → AlikeOn (now (trace .entry)) w count j i) ⌝ }
+{
+    let here = trace[w + j];
+    let there = trace[w + i];
+    let mut all = true;
+    for k in 0..count {
+        all = all & alike(trace[w + 1 + k + j], trace[w + 1 + k + i], here, there);
+    }
+    all
+}
+
+// Whether the windows of the block after window w compare at the last place with the neighbours l and h as w does. A neighbour that is
+// none stands for the place itself, which compares with itself alike in all windows.
+fn block_alike(trace: &[i32], w: usize, last: usize, l: u16, h: u16) -> bool
+    requires { ⌜ (w + 64 + last < length (now trace)) × (length (now trace) ≤ 65536) ⌝ }
+    ensures { λ r. ⌜ (r ≡ true → AlikeOn (now (trace .entry)) w 64 last (min l last) × AlikeOn (now (trace .entry)) w 64 last (min h last)) ⌝ }
+{
+    let below = smaller(wide16(l), last);
+    let above = smaller(wide16(h), last);
+    alike_on(trace, w, BLOCK, last, below) & alike_on(trace, w, BLOCK, last, above)
+}
+
+// The run after survivor k, window w, where the block after it is known to start there: a block, or none.
+fn block_after(
+    pattern: &[i32],
+    low: &[u16],
+    high: &[u16],
+    trace: &[i32],
+    survivors: &[u32],
+    kept: usize,
+    k: usize,
+    w: usize,
+) -> Run
+    requires { ⌜ Ahead (now pattern) (now low) (now high) (now trace) (now survivors) kept k w × (0 < length (now pattern)) × (k + 64 < kept) × (getD (now survivors) (k + 64) 0 ≡ w + 64) ⌝ }
+    ensures { λ r. ⌜ RunOf (now (pattern .entry)) (now (trace .entry)) (now (survivors .entry)) kept k w (r .windows) (r .spent) ⌝ }
+{
+    let last = pattern.len() - 1;
+    let l = low[last];
+    let h = high[last];
+    let window = &trace[w..w + pattern.len()];
+    if let Tested::Passed(cost) = test_place(l, h, window, Place(last)) {
+        if block_alike(trace, w, last, l, h) {
+            return Run {
+                windows: BLOCK,
+                spent: 64 * cost,
+                next: 0,
+            };
+        }
+    }
+    Run {
+        windows: 0,
+        spent: 0,
+        next: k + BLOCK,
+    }
+}
+
+// The run after survivor k, window w: a block, or none.
+fn run_after(
+    pattern: &[i32],
+    low: &[u16],
+    high: &[u16],
+    trace: &[i32],
+    survivors: &[u32],
+    kept: usize,
+    k: usize,
+    w: Window,
+) -> Run
+    requires { ⌜ Ahead (now pattern) (now low) (now high) (now trace) (now survivors) kept k (w .0) × (0 < length (now pattern)) ⌝ }
+    ensures { λ r. ⌜ RunOf (now (pattern .entry)) (now (trace .entry)) (now (survivors .entry)) kept k (w .0) (r .windows) (r .spent) ⌝ }
+{
+    let w = w.0;
+    let far = k + BLOCK;
+    if far < kept {
+        if wide32(survivors[far]) == w + BLOCK {
+            return block_after(pattern, low, high, trace, survivors, kept, k, w);
+        }
+    }
+    Run {
+        windows: 0,
+        spent: 0,
+        next: far,
+    }
+}
+
+// The run after survivor k, window w, whose tests began at the sample `from` and came to `reach`. It is looked for only where w had its
+// last place alone left and passed there, and where no look has failed within a block: each costs as much as a block's tests.
+pub(crate) fn look_ahead(
+    pattern: &[i32],
+    low: &[u16],
+    high: &[u16],
+    trace: &[i32],
+    survivors: &[u32],
+    kept: usize,
+    k: usize,
+    w: Window,
+    from: usize,
+    reach: usize,
+    next: usize,
+) -> Run
+    requires { ⌜ Ahead (now pattern) (now low) (now high) (now trace) (now survivors) kept k (w .0) × (w .0 ≤ from) × (from ≤ length (now trace)) ⌝ }
+    ensures { λ r. ⌜ RunOf (now (pattern .entry)) (now (trace .entry)) (now (survivors .entry)) kept k (w .0) (r .windows) (r .spent) × (0 < r .windows → (reach ≡ w .0 + length (now (pattern .entry))) × (0 < length (now (pattern .entry)))) ⌝ }
+{
+    let stop = w.0 + pattern.len();
+    if from + 1 == stop {
+        if reach == stop {
+            if next <= k {
+                return run_after(pattern, low, high, trace, survivors, kept, k, w);
+            }
+        }
+    }
+    Run {
+        windows: 0,
+        spent: 0,
+        next,
+    }
+}
+
+// Lists a run: so many entries of the survivors from entry k on, from entry `found` of the positions on.
+pub(crate) fn list_run(
+    survivors: &[u32],
+    k: usize,
+    windows: usize,
+    positions: &mut [u32],
+    found: usize,
+)
+    requires { ⌜ (k + windows ≤ length (now survivors)) × (found + windows ≤ length (now positions)) ⌝ }
+    ensures { λ r. ⌜ now (positions .exit) ≡ listedRun (now (survivors .entry)) k found windows (now (positions .entry)) ⌝ }
+{
+    for i in 0..windows {
+        positions[found + i] = survivors[k + i];
+    }
+}
