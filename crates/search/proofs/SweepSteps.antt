@@ -61,7 +61,7 @@ pub record Sweeping (P T : List ℤ) (x from before reach spent : ℕ) : Type 0 
   pub until : reach ≤ max from (x + length P)
   pub bound : spent ≤ before + 2 * (reach - from)
 
-pub begin : (P T : List ℤ) (x from before : ℕ) → Sweeping P T x from before from before
+begin : (P T : List ℤ) (x from before : ℕ) → Sweeping P T x from before from before
 begin P T x from before = record { same = λ l. refl; onward = omega arith; until = omega arith; bound = omega arith }
 
 -- one test more
@@ -70,34 +70,40 @@ a-test : (P T : List ℤ) (x e w f : ℕ) (l : List ℕ) (t : Tested) → testOf
 unfolding tests testsOf
 a-test P T x e w f l t h k = rw (k, h) refl
 
-module _ {P T : List ℤ} {x from before e w : ℕ} (i : Sweeping P T x from before e w) (h : e < x + length P) where
-  left : x + length P - e ≡ suc (x + length P - (e + 1))
+module _ {P T : List ℤ} {x from before j w : ℕ} (i : Sweeping P T x from before (x + j) w) (h : j < length P) where
+  left : x + length P - (x + j) ≡ suc (x + length P - (x + (j + 1)))
   left = omega arith
 
-  pub passed-on : (c : ℕ) → testOf P (drop x T) (e - x) ≡ Passed c → Sweeping P T x from before (e + 1) (w + c)
+  next : x + j + 1 ≡ x + (j + 1)
+  next = omega arith
+
+  here : {t : Tested} → testOf P (drop x T) j ≡ t → testOf P (drop x T) (x + j - x) ≡ t
+  here q = let same : x + j - x ≡ j = omega arith in ap (testOf P (drop x T)) same ∙ q
+
+  pub passed-on : (c : ℕ) → testOf P (drop x T) j ≡ Passed c → Sweeping P T x from before (x + (j + 1)) (w + c)
   unfolding onTest cost
   passed-on c q =
       record {
-        same = λ l. i .same l ∙ a-test P T x e w (x + length P - (e + 1)) l (Passed c) q left;
+        same = λ l. i .same l ∙ a-test P T x (x + j) w (x + length P - (x + (j + 1))) l (Passed c) (here q) left ∙ ap (λ (e : ℕ). tests cost (testsOf P T) x (x + length P - (x + (j + 1))) e (w + c) l) next;
         onward = let o = i .onward in omega arith;
         until = let u = i .until in omega arith;
-        bound = let b = i .bound in let o = i .onward in let k = cheap-pass P (drop x T) (e - x) c q in omega arith;
+        bound = let b = i .bound in let o = i .onward in let k = cheap-pass P (drop x T) j c q in omega arith;
       }
 
-  pub ended-there : (c n : ℕ) → testOf P (drop x T) (e - x) ≡ Failed c n → SweptOne P T x from before e (w + c) false
+  pub ended-there : (c n : ℕ) → testOf P (drop x T) j ≡ Failed c n → SweptOne P T x from before (x + j) (w + c) false
   unfolding onTest cost
   ended-there c n q =
       record {
-        result = λ l. i .same l ∙ a-test P T x e w (x + length P - (e + 1)) l (Failed c n) q left ∙ ap (swept e (w + c)) (sym (append-nil l));
+        result = λ l. i .same l ∙ a-test P T x (x + j) w (x + length P - (x + (j + 1))) l (Failed c n) (here q) left ∙ ap (swept (x + j) (w + c)) (sym (append-nil l));
         onward = i .onward;
         until = i .until;
-        bound = let b = i .bound in let k = cheap-fail P (drop x T) (e - x) c n q in omega arith;
+        bound = let b = i .bound in let k = cheap-fail P (drop x T) j c n q in omega arith;
       }
 
-pub came-through : {P T : List ℤ} {x from before e w : ℕ} → Sweeping P T x from before e w → x + length P ≤ e → SweptOne P T x from before e w true
+pub came-through : {P T : List ℤ} {x from before j w : ℕ} → Sweeping P T x from before (x + j) w → length P ≤ j → SweptOne P T x from before (x + j) w true
 unfolding tests
-came-through {P} {x = x} {e = e} i h =
-    let none : x + length P - e ≡ 0 = omega arith in
+came-through {P} {x = x} {j = j} i h =
+    let none : x + length P - (x + j) ≡ 0 = omega arith in
     record {
       result = λ l. i .same l ∙ rw none refl;
       onward = i .onward;
@@ -105,18 +111,19 @@ came-through {P} {x = x} {e = e} i h =
       bound = let b = i .bound in omega arith;
     }
 
+-- the tests begin at some place of x
+pub begin-at : (P T : List ℤ) (x from before j : ℕ) → from ≡ x + j → Sweeping P T x from before (x + j) before
+begin-at P T x from before j e = subst (λ (r : ℕ). Sweeping P T x from before r before) e (begin P T x from before)
+
 -- the last place alone is left
 module _ (P T : List ℤ) {x from : ℕ} (before : ℕ) (begun : x ≤ from) (last : from + 1 ≡ x + length P) where
-  test-there : {t : Tested} → testOf P (drop x T) (length P - 1) ≡ t → testOf P (drop x T) (from - x) ≡ t
-  test-there q = let e : from - x ≡ length P - 1 = omega arith in ap (testOf P (drop x T)) e ∙ q
+  start : Sweeping P T x from before (x + (length P - 1)) before
+  start = begin-at P T x from before (length P - 1) (omega arith)
 
   pub last-passed : (c : ℕ) → testOf P (drop x T) (length P - 1) ≡ Passed c → SweptOne P T x from before (x + length P) (before + c) true
   last-passed c q =
-      subst (λ (e : ℕ). SweptOne P T x from before e (before + c) true) last
-      (came-through (passed-on (begin P T x from before) (omega arith) c (test-there q)) (omega arith))
-
-  pub last-failed : (c n : ℕ) → testOf P (drop x T) (length P - 1) ≡ Failed c n → SweptOne P T x from before from (before + c) false
-  last-failed c n q = ended-there (begin P T x from before) (omega arith) c n (test-there q)
+      let end : x + (length P - 1 + 1) ≡ x + length P = omega arith in
+      subst (λ (e : ℕ). SweptOne P T x from before e (before + c) true) end (came-through (passed-on start (omega arith) c q) (omega arith))
 
 -- ---- all survivors
 

@@ -46,20 +46,19 @@ fn sweep_one(
     ensures { λ r. ⌜ SweptOne (now (pattern .entry)) (now (trace .entry)) (x .0) from before (r .reach) (r .spent) (r .whole) ⌝ }
 {
     let start = x.0;
-    let stop = start + pattern.len();
-    let window = &trace[start..stop];
-    let mut reach = from;
+    let m = pattern.len();
+    let window = &trace[start..start + m];
+    let mut j = from - start;
     let mut spent = before;
-    while reach < stop {
-        let j = reach - start;
+    while j < m {
         match test_place(low[j], high[j], window, Place(j)) {
             Tested::Passed(cost) => {
                 spent += cost;
-                reach += 1;
+                j += 1;
             }
             Tested::Failed(cost, _) => {
                 return Reached {
-                    reach,
+                    reach: start + j,
                     spent: spent + cost,
                     whole: false,
                 };
@@ -67,61 +66,10 @@ fn sweep_one(
         }
     }
     Reached {
-        reach,
+        reach: start + j,
         spent,
         whole: true,
     }
-}
-
-// The test of survivor x where its last place alone is left.
-fn sweep_last(
-    pattern: &[i32],
-    low: &[u16],
-    high: &[u16],
-    trace: &[i32],
-    x: Window,
-    from: usize,
-    before: u32,
-) -> Reached
-    requires { ⌜ Sweepable (now pattern) (now low) (now high) (now trace) (x .0) from before × (from + 1 ≡ x .0 + length (now pattern)) ⌝ }
-    ensures { λ r. ⌜ SweptOne (now (pattern .entry)) (now (trace .entry)) (x .0) from before (r .reach) (r .spent) (r .whole) ⌝ }
-{
-    let start = x.0;
-    let stop = start + pattern.len();
-    let window = &trace[start..stop];
-    let last = pattern.len() - 1;
-    match test_place(low[last], high[last], window, Place(last)) {
-        Tested::Passed(cost) => Reached {
-            reach: stop,
-            spent: before + cost,
-            whole: true,
-        },
-        Tested::Failed(cost, _) => Reached {
-            reach: from,
-            spent: before + cost,
-            whole: false,
-        },
-    }
-}
-
-// The tests of survivor x from the sample `from` on. A window that starts a sample after one that was listed has its last place
-// left; in a run of such windows no loop is entered.
-fn sweep_from(
-    pattern: &[i32],
-    low: &[u16],
-    high: &[u16],
-    trace: &[i32],
-    x: Window,
-    from: usize,
-    before: u32,
-) -> Reached
-    requires { ⌜ Sweepable (now pattern) (now low) (now high) (now trace) (x .0) from before ⌝ }
-    ensures { λ r. ⌜ SweptOne (now (pattern .entry)) (now (trace .entry)) (x .0) from before (r .reach) (r .spent) (r .whole) ⌝ }
-{
-    if from + 1 == x.0 + pattern.len() {
-        return sweep_last(pattern, low, high, trace, x, from, before);
-    }
-    sweep_one(pattern, low, high, trace, x, from, before)
 }
 
 // Lists a window that passed all its places, and answers how many are listed then.
@@ -158,7 +106,7 @@ pub(crate) fn sweep_all(
         let x = survivors[k];
         let start = wide32(x);
         let from = larger(reach, start);
-        let end = sweep_from(pattern, low, high, trace, Window(start), from, spent);
+        let end = sweep_one(pattern, low, high, trace, Window(start), from, spent);
         found = list_one(positions, found, x, end.whole);
         let run = look_ahead(
             pattern,

@@ -60,8 +60,8 @@ wide32-requires c κs = search needs
 larger-requires : tie.Need-larger-requires Inv-loop μ-loop
 larger-requires c κs = search needs
 
-sweep-from-requires : tie.Need-sweep-from-requires Inv-loop μ-loop
-sweep-from-requires c κs =
+sweep-one-requires : tie.Need-sweep-one-requires Inv-loop μ-loop
+sweep-one-requires c κs =
     let s = c .before .before .before .before .before .before .before .before .before in
     let l = c .before .before .before .before in
     let h = c .before .before .before .loop-test .taken in
@@ -72,28 +72,28 @@ sweep-from-requires c κs =
     let x = c .before .wide32 .ensures .0 in
     let e = survivor (c .before .before .before) in
     let g = c .larger .ensures in
-    record { own = s .pre .own; trace = t; inside = omega arith; begun = omega arith; reached = omega arith; small = omega (arith, few-kept s) }
+    record { own = s .pre .own; trace = t; inside = omega arith; begun = omega arith; small = omega (arith, few-kept s) }
 
 -- the survivor of this turn, swept and listed or not
 single : (c : tie.After-list-one Inv-loop μ-loop) →
     SweptTo (now (c .before .before .before .before .before .before .before .before .before .before .before .before .args .pattern)) (now (c .before .before .before .before .before .before .before .before .before .before .before .before .args .trace)) (c .before .before .before .before .before .before .before .before .before .before .before .before .args .kept) (now (c .before .before .before .before .before .before .before .before .before .before .before .before .args .positions))
-    (cond (c .before .before .sweep-from .result .whole) (set (c .before .before .before .before .before .before .before .loop .positions) (c .before .before .before .before .before .before .before .loop .found) (getD (now (c .before .before .before .before .before .before .before .before .before .before .before .before .args .survivors)) (c .before .before .before .before .before .before .before .loop .k) 0)) (c .before .before .before .before .before .before .before .loop .positions))
-    (c .before .before .before .before .before .before .before .loop .k + 1) (c .before .before .sweep-from .result .reach) (c .before .before .sweep-from .result .spent) (cond (c .before .before .sweep-from .result .whole) (c .before .before .before .before .before .before .before .loop .found + 1) (c .before .before .before .before .before .before .before .loop .found))
+    (cond (c .before .before .sweep-one .result .whole) (set (c .before .before .before .before .before .before .before .loop .positions) (c .before .before .before .before .before .before .before .loop .found) (getD (now (c .before .before .before .before .before .before .before .before .before .before .before .before .args .survivors)) (c .before .before .before .before .before .before .before .loop .k) 0)) (c .before .before .before .before .before .before .before .loop .positions))
+    (c .before .before .before .before .before .before .before .loop .k + 1) (c .before .before .sweep-one .result .reach) (c .before .before .sweep-one .result .spent) (cond (c .before .before .sweep-one .result .whole) (c .before .before .before .before .before .before .before .loop .found + 1) (c .before .before .before .before .before .before .before .loop .found))
 single c =
     let s = c .before .before .before .before .before .before .before .before .before .before .before .before in
     let l = c .before .before .before .before .before .before .before .loop in
     let h = c .before .before .before .before .before .before .loop-test .taken in
     let e = entry-of (now (s .args .pattern)) (now (s .args .trace)) (s .args .kept) (now (s .args .survivors)) (l .k) (s .pre .held) h in
     next-swept (l .inv) h (number s) e (s .pre .room)
-    (swept-as (l .reach) (c .before .before .before .before .wide32 .ensures .0) (c .before .before .before .larger .ensures) (c .before .before .sweep-from .ensures)) (survivor (c .before .before .before .before .before .before))
+    (swept-as (l .reach) (c .before .before .before .before .wide32 .ensures .0) (c .before .before .before .larger .ensures) (c .before .before .sweep-one .ensures)) (survivor (c .before .before .before .before .before .before))
 
 -- and the run after it
 whole-turn : (c : tie.After-look-ahead Inv-loop μ-loop) →
     SweptTo (now (c .before .before .before .before .before .before .before .before .before .before .before .before .before .before .before .args .pattern)) (now (c .before .before .before .before .before .before .before .before .before .before .before .before .before .before .before .args .trace)) (c .before .before .before .before .before .before .before .before .before .before .before .before .before .before .before .args .kept) (now (c .before .before .before .before .before .before .before .before .before .before .before .before .before .before .before .args .positions))
-    (listedRun (now (c .before .before .before .before .before .before .before .before .before .before .before .before .before .before .before .args .survivors)) (c .before .before .before .before .before .before .before .before .before .before .loop .k + 1) (cond (c .before .before .before .before .before .sweep-from .result .whole) (c .before .before .before .before .before .before .before .before .before .before .loop .found + 1) (c .before .before .before .before .before .before .before .before .before .before .loop .found)) (c .look-ahead .result .windows)
-    (cond (c .before .before .before .before .before .sweep-from .result .whole) (set (c .before .before .before .before .before .before .before .before .before .before .loop .positions) (c .before .before .before .before .before .before .before .before .before .before .loop .found) (getD (now (c .before .before .before .before .before .before .before .before .before .before .before .before .before .before .before .args .survivors)) (c .before .before .before .before .before .before .before .before .before .before .loop .k) 0)) (c .before .before .before .before .before .before .before .before .before .before .loop .positions)))
-    (c .before .before .before .before .before .before .before .before .before .before .loop .k + 1 + c .look-ahead .result .windows) (c .before .before .before .before .before .sweep-from .result .reach + c .look-ahead .result .windows) (c .before .before .before .before .before .sweep-from .result .spent + c .look-ahead .result .spent)
-    (cond (c .before .before .before .before .before .sweep-from .result .whole) (c .before .before .before .before .before .before .before .before .before .before .loop .found + 1) (c .before .before .before .before .before .before .before .before .before .before .loop .found) + c .look-ahead .result .windows)
+    (listedRun (now (c .before .before .before .before .before .before .before .before .before .before .before .before .before .before .before .args .survivors)) (c .before .before .before .before .before .before .before .before .before .before .loop .k + 1) (cond (c .before .before .before .before .before .sweep-one .result .whole) (c .before .before .before .before .before .before .before .before .before .before .loop .found + 1) (c .before .before .before .before .before .before .before .before .before .before .loop .found)) (c .look-ahead .result .windows)
+    (cond (c .before .before .before .before .before .sweep-one .result .whole) (set (c .before .before .before .before .before .before .before .before .before .before .loop .positions) (c .before .before .before .before .before .before .before .before .before .before .loop .found) (getD (now (c .before .before .before .before .before .before .before .before .before .before .before .before .before .before .before .args .survivors)) (c .before .before .before .before .before .before .before .before .before .before .loop .k) 0)) (c .before .before .before .before .before .before .before .before .before .before .loop .positions)))
+    (c .before .before .before .before .before .before .before .before .before .before .loop .k + 1 + c .look-ahead .result .windows) (c .before .before .before .before .before .sweep-one .result .reach + c .look-ahead .result .windows) (c .before .before .before .before .before .sweep-one .result .spent + c .look-ahead .result .spent)
+    (cond (c .before .before .before .before .before .sweep-one .result .whole) (c .before .before .before .before .before .before .before .before .before .before .loop .found + 1) (c .before .before .before .before .before .before .before .before .before .before .loop .found) + c .look-ahead .result .windows)
 whole-turn c =
     let p = c .before .before .before .before .before .before .before .before .before .before .before .before .before .before .before .pre in
     run-swept (c .look-ahead .ensures .0) (p .held) (p .kept-long) (p .room) (c .look-ahead .ensures .1) (single (c .before .before .before))
@@ -199,7 +199,7 @@ sweep-all-spec =
     shared-slice-read-x
     wide32-requires
     larger-requires
-    sweep-from-requires
+    sweep-one-requires
     list-one-requires
     look-ahead-requires
     add-k
