@@ -2,8 +2,8 @@
 pub mod Verdicts
 pub mod VerdictRows
 pub mod LengthLaws
-pub mod NearestSoFar
 pub mod SampleSteps
+pub mod NearestByValue
 pub mod ClaimLaws
 pub mod Offsets
 pub mod OwnTables

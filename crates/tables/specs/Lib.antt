@@ -5,3 +5,4 @@ pub mod Promises
 pub mod Lengths
 pub mod Asked
 pub mod Claims
+pub mod NearValues

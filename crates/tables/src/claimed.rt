@@ -17,9 +17,9 @@ ghost use Rattle.tables.specs.Asked.{OwnNeighbours};
 ghost use Rattle.tables.specs.Claims.{Outside, NoneWithin, Floor, Ceiling, NoneBetween, OwnEntries};
 
 // The least and the greatest sample there can be: limits that nothing lies beyond.
-const LEAST: i32 = -2147483648;
+pub(crate) const LEAST: i32 = -2147483648;
 
-const GREATEST: i32 = 2147483647;
+pub(crate) const GREATEST: i32 = 2147483647;
 
 // Whether a sample lies below lo or above hi.
 fn outside(x: i32, lo: i32, hi: i32) -> bool
@@ -30,7 +30,7 @@ fn outside(x: i32, lo: i32, hi: i32) -> bool
 
 // Whether none of the samples at the places from..to lies from lo to hi, both counted in. It looks at all of them even after one that
 // does: a loop that could end early would take them one by one.
-fn none_within(pattern: &[i32], from: usize, to: usize, lo: i32, hi: i32) -> bool
+pub(crate) fn none_within(pattern: &[i32], from: usize, to: usize, lo: i32, hi: i32) -> bool
     requires { ⌜ to ≤ length (now pattern) ⌝ }
     ensures { λ r. ⌜ (r ≡ true → NoneWithin (now (pattern .entry)) from to lo hi) ⌝ }
 {

@@ -1,81 +1,111 @@
 // The neighbour tables: for each place of the pattern the earlier place whose value is nearest from below, and from above.
 //
-// Follows docs/RULES.md, "Neighbours". Each place goes over all earlier ones, so a table takes m² / 2 steps and no working
+// Follows docs/RULES.md, "Neighbours". A place finds the values of its two neighbours first, and then goes back to the last earlier
+// place that has each. Asked apart, neither question needs a branch for each sample, so the compiler turns both loops into steps of
+// four. The two tables together take m² / 2 steps by fours for the values and at most m² by eights for the places, and no working
 // list. Callers hand over a pattern of at most 1,024 samples, whose places an entry can hold.
 
+use crate::claimed::GREATEST;
+use crate::claimed::LEAST;
+use crate::claimed::none_within;
 use order::NONE;
 ghost use mathlib.Core.Path.{_≡_};
-ghost use Prim.Native.Nat.{_+_, _<_, _≤_};
+ghost use mathlib.Core.Bool.{cond};
+ghost use Prim.Native.Nat.{_<_, _≤_};
 ghost use lib.ListN.{length};
-ghost use lib.Signed.{leZ};
-ghost use Rattle.order.specs.Sizes.{at, entry, patternLimit};
-ghost use Rattle.order.specs.Neighbours.{nearest, lowOf, highOf, lowTable, highTable};
+ghost use Rattle.order.specs.Sizes.{patternLimit};
+ghost use Rattle.order.specs.Neighbours.{lowTable, highTable};
 ghost use Rattle.order.specs.Written.{over};
+ghost use Rattle.tables.specs.Claims.{NoneWithin, OwnEntries};
+ghost use Rattle.tables.specs.NearValues.{NearestValues, LastEqual};
 
-// Whether the sample at place i is at most the one at place k.
-fn at_most(pattern: &[i32], i: usize, k: usize) -> bool
-    requires { ⌜ (i < length (now pattern)) × (k < length (now pattern)) ⌝ }
-    ensures { λ r. ⌜ r ≡ leZ (at (now (pattern .entry)) i) (at (now (pattern .entry)) k) ⌝ }
-{
-    pattern[i] <= pattern[k]
+// How many samples are passed over with one branch.
+const STRIDE: usize = 8;
+
+// The values of a place's neighbours. Where there is none it is the limit on that side, the least or the greatest sample.
+struct Values {
+    below: i32,
+    above: i32,
 }
 
-// Place j's low neighbour among the places up to i, from the one among those before i.
-fn lower(pattern: &[i32], j: usize, i: usize, best: u16) -> u16
-    requires { ⌜ (i < j) × (j < length (now pattern)) × (length (now pattern) ≤ patternLimit) × (best ≡ entry (nearest leZ (now pattern) j i)) ⌝ }
-    ensures { λ r. ⌜ r ≡ entry (nearest leZ (now (pattern .entry)) j (i + 1)) ⌝ }
+// The entries of a place.
+struct Entries {
+    low: u16,
+    high: u16,
+}
+
+// One of two samples: a step with no branch.
+fn pick(test: bool, a: i32, b: i32) -> i32
+    ensures { λ r. ⌜ r ≡ cond test a b ⌝ }
 {
-    if at_most(pattern, i, j) {
-        if best == NONE {
-            return i as u16;
-        }
-        if at_most(pattern, best as usize, i) {
-            return i as u16;
-        }
-        return best;
+    if test {
+        return a;
     }
-    best
+    b
 }
 
-// The same of the high neighbour.
-fn higher(pattern: &[i32], j: usize, i: usize, best: u16) -> u16
-    requires { ⌜ (i < j) × (j < length (now pattern)) × (length (now pattern) ≤ patternLimit) × (best ≡ entry (nearest (λ a b. leZ b a) (now pattern) j i)) ⌝ }
-    ensures { λ r. ⌜ r ≡ entry (nearest (λ a b. leZ b a) (now (pattern .entry)) j (i + 1)) ⌝ }
+// The values of place j's neighbours. A sample on the other side counts as the limit, which changes nothing, so each turn is the same
+// few steps whatever the sample. They stand here one by one: from a function that put two of them together the compiler makes a form
+// that it can't take by fours.
+fn nearest_values(pattern: &[i32], j: usize) -> Values
+    requires { ⌜ j < length (now pattern) ⌝ }
+    ensures { λ r. ⌜ NearestValues (now (pattern .entry)) j (r .below) (r .above) ⌝ }
 {
-    if at_most(pattern, j, i) {
-        if best == NONE {
-            return i as u16;
-        }
-        if at_most(pattern, i, best as usize) {
-            return i as u16;
-        }
-        return best;
-    }
-    best
-}
-
-// The entry of place j's low neighbour.
-fn low_entry(pattern: &[i32], j: usize) -> u16
-    requires { ⌜ (j < length (now pattern)) × (length (now pattern) ≤ patternLimit) ⌝ }
-    ensures { λ r. ⌜ r ≡ entry (lowOf (now (pattern .entry)) j) ⌝ }
-{
-    let mut best = NONE;
+    let x = pattern[j];
+    let mut below = LEAST;
+    let mut above = GREATEST;
     for i in 0..j {
-        best = lower(pattern, j, i, best);
+        let y = pattern[i];
+        let low = pick(y <= x, y, LEAST);
+        let high = pick(x <= y, y, GREATEST);
+        below = pick(low <= below, below, low);
+        above = pick(above <= high, above, high);
     }
-    best
+    Values { below, above }
 }
 
-// The entry of place j's high neighbour.
-fn high_entry(pattern: &[i32], j: usize) -> u16
-    requires { ⌜ (j < length (now pattern)) × (length (now pattern) ≤ patternLimit) ⌝ }
-    ensures { λ r. ⌜ r ≡ entry (highOf (now (pattern .entry)) j) ⌝ }
+// Back from place j over samples that are not v, many at once: a place from which on, up to j, there is none.
+fn pass_over(pattern: &[i32], j: usize, v: i32) -> usize
+    requires { ⌜ j ≤ length (now pattern) ⌝ }
+    ensures { λ r. ⌜ (r ≤ j) × NoneWithin (now (pattern .entry)) r j v v ⌝ }
 {
-    let mut best = NONE;
-    for i in 0..j {
-        best = higher(pattern, j, i, best);
+    let mut i = j;
+    while STRIDE <= i {
+        if none_within(pattern, i - STRIDE, i, v, v) {
+            i -= STRIDE;
+        } else {
+            return i;
+        }
     }
-    best
+    i
+}
+
+// The entry of the last place before j whose sample is v. A limit that stands for no neighbour is found nowhere, since a sample that
+// equals it would be on that side: so it needs no case of its own.
+fn last_equal(pattern: &[i32], j: usize, v: i32) -> u16
+    requires { ⌜ (j ≤ length (now pattern)) × (length (now pattern) ≤ patternLimit) ⌝ }
+    ensures { λ r. ⌜ LastEqual (now (pattern .entry)) j v r ⌝ }
+{
+    let mut i = pass_over(pattern, j, v);
+    while 0 < i {
+        i -= 1;
+        if pattern[i] == v {
+            return i as u16;
+        }
+    }
+    NONE
+}
+
+// The entries of place j's neighbours.
+fn own_entries(pattern: &[i32], j: usize) -> Entries
+    requires { ⌜ (j < length (now pattern)) × (length (now pattern) ≤ patternLimit) ⌝ }
+    ensures { λ r. ⌜ OwnEntries (now (pattern .entry)) j (r .low) (r .high) ⌝ }
+{
+    let near = nearest_values(pattern, j);
+    Entries {
+        low: last_equal(pattern, j, near.below),
+        high: last_equal(pattern, j, near.above),
+    }
 }
 
 // Writes the neighbours of all places.
@@ -84,7 +114,8 @@ pub(crate) fn write_neighbours(pattern: &[i32], low: &mut [u16], high: &mut [u16
     ensures { λ r. ⌜ (now (low .exit) ≡ over (lowTable (now (pattern .entry))) (now (low .entry))) × (now (high .exit) ≡ over (highTable (now (pattern .entry))) (now (high .entry))) ⌝ }
 {
     for j in 0..pattern.len() {
-        low[j] = low_entry(pattern, j);
-        high[j] = high_entry(pattern, j);
+        let own = own_entries(pattern, j);
+        low[j] = own.low;
+        high[j] = own.high;
     }
 }

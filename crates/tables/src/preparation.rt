@@ -1,8 +1,8 @@
 // Preparation: from a pattern its four tables.
 //
 // Follows docs/RULES.md, "Neighbours", "Witness", "What is written" and "Refusals". Sizes are checked before the first
-// store, so a refused call leaves every table as it was. The neighbour tables take m² steps; the witness tables are made
-// from them. No array is kept.
+// store, so a refused call leaves every table as it was. The neighbour tables take m² / 2 steps by fours and at most m² by
+// eights; the witness tables are made from them. No array is kept.
 
 use crate::answers::Checked;
 use crate::answers::Prepared;

@@ -24,17 +24,14 @@ abbrev μ-loop : tie.MeasureT-loop
 loop-holds : tie.Need-loop-holds Inv-loop μ-loop
 loop-holds c = (omega arith, refl, filled-none _ _, filled-none _ _)
 
-low-entry-requires : tie.Need-low-entry-requires Inv-loop μ-loop
-low-entry-requires c κs = search needs
+own-entries-requires : tie.Need-own-entries-requires Inv-loop μ-loop
+own-entries-requires c κs = search needs
 
 mul-low : tie.Need-mul-low Inv-loop μ-loop
 mul-low c = search needs
 
 slice-write-low : tie.Need-slice-write-low Inv-loop μ-loop
 slice-write-low c = search needs
-
-high-entry-requires : tie.Need-high-entry-requires Inv-loop μ-loop
-high-entry-requires c κs = search needs
 
 mul-high : tie.Need-mul-high Inv-loop μ-loop
 mul-high c = search needs
@@ -50,11 +47,11 @@ loop-less c = search needs
 
 loop-again : tie.Need-loop-again Inv-loop μ-loop
 loop-again c =
-    let l = c .before .before .before .loop in (
+    let l = c .before .before .loop in (
       omega arith,
       refl,
-      filled-more _ (l .inv .2) (omega arith) (c .before .low-entry .ensures),
-      filled-more _ (l .inv .3) (omega arith) (c .high-entry .ensures),
+      filled-more _ (l .inv .2) (omega arith) (c .own-entries .ensures .low-own),
+      filled-more _ (l .inv .3) (omega arith) (c .own-entries .ensures .high-own),
     )
 
 same-length : tie.Need-same-length Inv-loop μ-loop
@@ -77,10 +74,9 @@ write-neighbours-spec =
     Inv-loop
     μ-loop
     loop-holds
-    low-entry-requires
+    own-entries-requires
     mul-low
     slice-write-low
-    high-entry-requires
     mul-high
     slice-write-high
     add-j
