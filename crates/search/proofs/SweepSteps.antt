@@ -125,6 +125,11 @@ module _ (P T : List ℤ) {x from : ℕ} (before : ℕ) (begun : x ≤ from) (la
       let end : x + (length P - 1 + 1) ≡ x + length P = omega arith in
       subst (λ (e : ℕ). SweptOne P T x from before e (before + c) true) end (came-through (passed-on start (omega arith) c q) (omega arith))
 
+  pub last-failed : (c n : ℕ) → testOf P (drop x T) (length P - 1) ≡ Failed c n → SweptOne P T x from before from (before + c) false
+  last-failed c n q =
+      let end : x + (length P - 1) ≡ from = omega arith in
+      subst (λ (e : ℕ). SweptOne P T x from before e (before + c) false) end (ended-there start (omega arith) c n q)
+
 -- ---- all survivors
 
 -- the first k survivors have been swept

@@ -55,6 +55,7 @@ pub record Sweepable (P : List ℤ) (low high : List ℕ) (T : List ℤ) (x from
   pub trace : length T ≤ traceLimit
   pub inside : x + length P ≤ length T
   pub begun : x ≤ from
+  pub reached : from ≤ length T
   pub small : before ≤ 1000000
 
 -- the survivors, in the first entries of their buffer, and a buffer with room for them

@@ -2,7 +2,7 @@
 //
 // Follows docs/RULES.md, "Sweep". A window passes its last place, and at the same cost, if it compares there with its neighbours as a
 // window does that has passed. A block's windows are compared in loops with no test inside, which the compiler turns into steps of
-// four samples; where one fails, the tests are left to the sweep, and the next block is tried a block later.
+// four samples; where one fails, the tests are left to the sweep, and the next block is looked at some blocks later.
 
 use order::Place;
 use order::Tested;
@@ -20,6 +20,9 @@ ghost use Rattle.search.specs.Runs.{AlikeOn, Ahead, RunOf, listedRun};
 
 // The windows of a block.
 const BLOCK: usize = 64;
+
+// The survivors for which no block is looked at after one that failed: each look costs as much as some ten tests.
+const WAIT: usize = 256;
 
 // Survivors that need no tests: how many, what theirs would have cost, and the first survivor after which to look for more.
 pub(crate) struct Run {
@@ -90,12 +93,13 @@ fn block_after(
     Run {
         windows: 0,
         spent: 0,
-        next: k + BLOCK,
+        next: k + WAIT,
     }
 }
 
-// The run after survivor k, window w: a block, or none.
-fn run_after(
+// The run after survivor k, window w, whose tests came to the sample `reach`: a block, or none. It is looked for only where w passed its
+// last place and no look has failed shortly before.
+pub(crate) fn run_after(
     pattern: &[i32],
     low: &[u16],
     high: &[u16],
@@ -104,47 +108,20 @@ fn run_after(
     kept: usize,
     k: usize,
     w: Window,
-) -> Run
-    requires { ⌜ Ahead (now pattern) (now low) (now high) (now trace) (now survivors) kept k (w .0) × (0 < length (now pattern)) ⌝ }
-    ensures { λ r. ⌜ RunOf (now (pattern .entry)) (now (trace .entry)) (now (survivors .entry)) kept k (w .0) (r .windows) (r .spent) ⌝ }
-{
-    let w = w.0;
-    let far = k + BLOCK;
-    if far < kept {
-        if wide32(survivors[far]) == w + BLOCK {
-            return block_after(pattern, low, high, trace, survivors, kept, k, w);
-        }
-    }
-    Run {
-        windows: 0,
-        spent: 0,
-        next: far,
-    }
-}
-
-// The run after survivor k, window w, whose tests began at the sample `from` and came to `reach`. It is looked for only where w had its
-// last place alone left and passed there, and where no look has failed within a block: each costs as much as a block's tests.
-pub(crate) fn look_ahead(
-    pattern: &[i32],
-    low: &[u16],
-    high: &[u16],
-    trace: &[i32],
-    survivors: &[u32],
-    kept: usize,
-    k: usize,
-    w: Window,
-    from: usize,
     reach: usize,
     next: usize,
 ) -> Run
-    requires { ⌜ Ahead (now pattern) (now low) (now high) (now trace) (now survivors) kept k (w .0) × (w .0 ≤ from) × (from ≤ length (now trace)) ⌝ }
-    ensures { λ r. ⌜ RunOf (now (pattern .entry)) (now (trace .entry)) (now (survivors .entry)) kept k (w .0) (r .windows) (r .spent) × (0 < r .windows → (reach ≡ w .0 + length (now (pattern .entry))) × (0 < length (now (pattern .entry)))) ⌝ }
+    requires { ⌜ Ahead (now pattern) (now low) (now high) (now trace) (now survivors) kept k (w .0) × (0 < length (now pattern)) ⌝ }
+    ensures { λ r. ⌜ RunOf (now (pattern .entry)) (now (trace .entry)) (now (survivors .entry)) kept k (w .0) (r .windows) (r .spent) × (0 < r .windows → reach ≡ w .0 + length (now (pattern .entry))) ⌝ }
 {
-    let stop = w.0 + pattern.len();
-    if from + 1 == stop {
-        if reach == stop {
-            if next <= k {
-                return run_after(pattern, low, high, trace, survivors, kept, k, w);
+    let w = w.0;
+    let far = k + BLOCK;
+    if reach == w + pattern.len() {
+        if next <= k {
+            if far < kept {
+                if wide32(survivors[far]) == w + BLOCK {
+                    return block_after(pattern, low, high, trace, survivors, kept, k, w);
+                }
             }
         }
     }

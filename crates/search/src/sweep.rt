@@ -5,7 +5,7 @@
 // most once, so the sweep spends at most 2(n + S) comparisons. Callers hand over the pattern's own tables and its survivors.
 
 use crate::runs::list_run;
-use crate::runs::look_ahead;
+use crate::runs::run_after;
 use order::Place;
 use order::Tested;
 use order::Window;
@@ -72,6 +72,57 @@ fn sweep_one(
     }
 }
 
+// The test of survivor x where its last place alone is left.
+fn sweep_last(
+    pattern: &[i32],
+    low: &[u16],
+    high: &[u16],
+    trace: &[i32],
+    x: Window,
+    from: usize,
+    before: u32,
+) -> Reached
+    requires { ⌜ Sweepable (now pattern) (now low) (now high) (now trace) (x .0) from before × (from + 1 ≡ x .0 + length (now pattern)) ⌝ }
+    ensures { λ r. ⌜ SweptOne (now (pattern .entry)) (now (trace .entry)) (x .0) from before (r .reach) (r .spent) (r .whole) ⌝ }
+{
+    let start = x.0;
+    let stop = start + pattern.len();
+    let window = &trace[start..stop];
+    let last = pattern.len() - 1;
+    match test_place(low[last], high[last], window, Place(last)) {
+        Tested::Passed(cost) => Reached {
+            reach: stop,
+            spent: before + cost,
+            whole: true,
+        },
+        Tested::Failed(cost, _) => Reached {
+            reach: from,
+            spent: before + cost,
+            whole: false,
+        },
+    }
+}
+
+// The tests of survivor x from the sample `from` on. A window that starts a sample after one that was listed has its last place alone
+// left, and enters no loop.
+fn sweep_from(
+    pattern: &[i32],
+    low: &[u16],
+    high: &[u16],
+    trace: &[i32],
+    x: Window,
+    from: usize,
+    before: u32,
+) -> Reached
+    requires { ⌜ Sweepable (now pattern) (now low) (now high) (now trace) (x .0) from before ⌝ }
+    ensures { λ r. ⌜ SweptOne (now (pattern .entry)) (now (trace .entry)) (x .0) from before (r .reach) (r .spent) (r .whole) ⌝ }
+{
+    if from + 1 == x.0 + pattern.len() {
+        return sweep_last(pattern, low, high, trace, x, from, before);
+    }
+    sweep_one(pattern, low, high, trace, x, from, before)
+}
+
 // Lists a window that passed all its places, and answers how many are listed then.
 fn list_one(positions: &mut [u32], found: usize, x: u32, whole: bool) -> usize
     requires { ⌜ found < length (now positions) ⌝ }
@@ -102,13 +153,20 @@ pub(crate) fn sweep_all(
     let mut found: usize = 0;
     let mut next: usize = 0;
     let mut k: usize = 0;
-    while k < kept {
+    'turns: while k < kept {
         let x = survivors[k];
         let start = wide32(x);
         let from = larger(reach, start);
-        let end = sweep_one(pattern, low, high, trace, Window(start), from, spent);
+        let end = sweep_from(pattern, low, high, trace, Window(start), from, spent);
         found = list_one(positions, found, x, end.whole);
-        let run = look_ahead(
+        reach = end.reach;
+        spent = end.spent;
+        // a run comes only after a window whose last place alone was left
+        if from + 1 != start + pattern.len() {
+            k += 1;
+            continue 'turns;
+        }
+        let run = run_after(
             pattern,
             low,
             high,
@@ -117,15 +175,14 @@ pub(crate) fn sweep_all(
             kept,
             k,
             Window(start),
-            from,
-            end.reach,
+            reach,
             next,
         );
         k += 1;
         list_run(survivors, k, run.windows, positions, found);
         k += run.windows;
-        reach = end.reach + run.windows;
-        spent = end.spent + run.spent;
+        reach += run.windows;
+        spent += run.spent;
         found += run.windows;
         next = run.next;
     }
