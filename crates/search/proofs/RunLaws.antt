@@ -28,9 +28,10 @@ use Rattle.order.proofs.Orders.{rel-less, rel-greater, rel-equal}
 use Rattle.order.proofs.Lists.{Ascending}
 use Rattle.order.proofs.PlaceTests.{low-earlier, high-earlier, test-by-neighbours}
 use Rattle.order.proofs.Whole.{survivors-ascend}
-use Rattle.search.specs.Runs.{AlikeOn, Ahead, RunOf, listedRun}
-use Rattle.search.specs.Sweeps.{SweptOne}
-use Rattle.search.proofs.SweepSteps.{SweptTo, last-passed, next-swept, entry-of, kept-number, mem-at, survivor-inside}
+use Rattle.search.specs.Asked.{Kept}
+use Rattle.search.specs.Runs.{AlikeOn, Ahead, RunOf, RunAt, listedRun}
+use Rattle.search.specs.Sweeps.{SweptOne, SweptTo}
+use Rattle.search.proofs.SweepSteps.{last-passed, next-swept, entry-of, kept-number, mem-at, survivor-inside}
 
 -- ---- comparisons alike
 
@@ -95,18 +96,21 @@ spaced xs a i (suc n) h =
     step (x ∷ xs) a zero h = a .0 (getD xs 0 0) (mem-at xs 0 (omega arith))
     step (x ∷ xs) a (suc i) h = step xs (a .1) i (omega arith)
 
-module _ {P : List ℤ} {low high : List ℕ} {T : List ℤ} {buffer : List ℕ} {kept k w : ℕ} (a : Ahead P low high T buffer kept k w) where
-  pub no-run : RunOf P T buffer kept k w 0 0
-  no-run =
-      let h = a .within in
-      record { within = omega arith; each = 0; total = refl; beside = λ i e. absurd (omega arith); passes = λ i e. absurd (omega arith) }
+pub no-run : (P T : List ℤ) (buffer : List ℕ) (kept k w : ℕ) → k < kept → RunOf P T buffer kept k w 0 0
+no-run P T buffer kept k w h =
+    record { within = omega arith; each = 0; total = refl; beside = λ i e. absurd (omega arith); passes = λ i e. absurd (omega arith) }
 
+pub no-run-at : (P T : List ℤ) (buffer : List ℕ) (kept k reach : ℕ) → k < kept → RunAt P T buffer kept k reach 0 0
+no-run-at P T buffer kept k reach h =
+    record { first = 0; run = no-run P T buffer kept (k - 1) 0 (omega arith); reached = λ e. absurd (omega arith) }
+
+module _ {P : List ℤ} {low high : List ℕ} {T : List ℤ} {buffer : List ℕ} {kept k w : ℕ} (a : Ahead P low high T buffer kept k w) where
   -- as far apart in the buffer
   apart : (i n : ℕ) → i + n < kept → getD buffer i 0 + n ≤ getD buffer (i + n) 0
   apart i n h =
-      let number = kept-number P T kept buffer (a .held) (a .kept-long) in
+      let number = kept-number P T kept buffer (a .rows .held) (a .rows .kept-long) in
       let s = spaced (survivors P T) (survivors-ascend P T) i n (omega arith) in
-      rw (entry-of P T kept buffer i (a .held) (omega arith), entry-of P T kept buffer (i + n) (a .held) h) s
+      rw (entry-of P T kept buffer i (a .rows .held) (omega arith), entry-of P T kept buffer (i + n) (a .rows .held) h) s
 
   module _ (count : ℕ) (far : k + count < kept) (there : getD buffer (k + count) 0 ≡ w + count) where
     side : (i : ℕ) → i < count → getD buffer (k + 1 + i) 0 ≡ w + 1 + i
@@ -123,8 +127,8 @@ module _ {P : List ℤ} {low high : List ℕ} {T : List ℤ} {buffer : List ℕ}
     -- the last of them lies within the trace, and so do all
     pub all-inside : w + count + length P ≤ length T
     all-inside =
-        let number = kept-number P T kept buffer (a .held) (a .kept-long) in
-        let e = entry-of P T kept buffer (k + count) (a .held) far in
+        let number = kept-number P T kept buffer (a .rows .held) (a .rows .kept-long) in
+        let e = entry-of P T kept buffer (k + count) (a .rows .held) far in
         let i = survivor-inside P T (k + count) (omega arith) in
         omega arith
 
@@ -149,8 +153,8 @@ module _ {P : List ℤ} {low high : List ℕ} {T : List ℤ} {buffer : List ℕ}
       passing : (i : ℕ) → i < count → testOf P (drop (w + 1 + i) T) (length P - 1) ≡ Passed c
       passing i h =
           test-by-neighbours P (drop (w + 1 + i) T) (drop w T) (length P - 1)
-          (λ n e. samples i n _ (neighbour (lowOf P (length P - 1)) (getD low (length P - 1) 0) n (a .own .low-own (length P - 1) last-place) e (low-earlier P (length P - 1) n e)) h below)
-          (λ n e. samples i n _ (neighbour (highOf P (length P - 1)) (getD high (length P - 1) 0) n (a .own .high-own (length P - 1) last-place) e (high-earlier P (length P - 1) n e)) h above) ∙
+          (λ n e. samples i n _ (neighbour (lowOf P (length P - 1)) (getD low (length P - 1) 0) n (a .rows .own .low-own (length P - 1) last-place) e (low-earlier P (length P - 1) n e)) h below)
+          (λ n e. samples i n _ (neighbour (highOf P (length P - 1)) (getD high (length P - 1) 0) n (a .rows .own .high-own (length P - 1) last-place) e (high-earlier P (length P - 1) n e)) h above) ∙
           q
 
       pub a-run : RunOf P T buffer kept k w count (count * c)
@@ -196,5 +200,16 @@ module _ {P T : List ℤ} {buffer : List ℕ} {kept k w windows total : ℕ} (r 
       (next-swept (first-swept n (omega arith)) (omega arith) number x room (one-swept n here)
       (let i = survivor-inside P T (k + 1 + n) (let m = number in omega arith) in omega arith))
 
-  pub run-swept : SweptTo P T kept before (listedRun buffer (k + 1) found windows after) (k + 1 + windows) (reach + windows) (spent + total) (found + windows)
+  run-swept : SweptTo P T kept before (listedRun buffer (k + 1) found windows after) (k + 1 + windows) (reach + windows) (spent + total) (found + windows)
   run-swept = rw (r .total) (first-swept windows (omega arith))
+
+-- the same of the survivor that comes next
+pub run-swept-at : {P : List ℤ} {low high : List ℕ} {T : List ℤ} {buffer : List ℕ} {kept k windows total : ℕ} {before after : List ℕ} {reach spent found : ℕ}
+    → RunAt P T buffer kept k reach windows total → Kept P low high T buffer kept → kept ≤ length before → 0 < windows → SweptTo P T kept before after k reach spent found
+    → SweptTo P T kept before (listedRun buffer k found windows after) (k + windows) (reach + windows) (spent + total) (found + windows)
+run-swept-at {P} {T = T} {buffer} {kept} {k} {windows} {total} {before} {after} {reach} {spent} {found} r rows room h s =
+    let t = r .reached h in
+    let some = t .0 in
+    let same : k - 1 + 1 ≡ k = omega arith in
+    subst (λ (n : ℕ). SweptTo P T kept before (listedRun buffer n found windows after) (n + windows) (reach + windows) (spent + total) (found + windows)) same
+    (run-swept (r .run) (rows .held) (rows .kept-long) room (λ e. (t .1, t .2)) (subst (λ (n : ℕ). SweptTo P T kept before after n reach spent found) (sym same) s))

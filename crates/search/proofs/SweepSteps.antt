@@ -21,8 +21,9 @@ use Rattle.order.proofs.Lists.{windowsOf-as}
 use Rattle.order.proofs.PlaceTests.{test-cost, test-depends}
 use Rattle.order.proofs.TestByEntries.{test-by-own}
 use Rattle.tables.specs.Asked.{OwnNeighbours}
-use Rattle.order.proofs.Dueling.{survivors-below}
-use Rattle.search.specs.Sweeps.{SweptOne, SweepOf}
+use Rattle.order.proofs.Dueling.{survivors-below, duels-and-survivors}
+use Rattle.search.specs.Asked.{Kept}
+use Rattle.search.specs.Sweeps.{SweptOne, SweptTo, SweepOf}
 
 -- ---- a test by the pattern's own entries, on the window's samples alone
 
@@ -132,16 +133,6 @@ module _ (P T : List ℤ) {x from : ℕ} (before : ℕ) (begun : x ≤ from) (la
 
 -- ---- all survivors
 
--- the first k survivors have been swept
-pub record SweptTo (P T : List ℤ) (kept : ℕ) (before after : List ℕ) (k reach spent found : ℕ) : Type 0 where
-  pub within : k ≤ kept
-  pub few : found ≤ k
-  pub reached : reach ≤ length T
-  pub bound : spent ≤ 2 * (reach + k)
-  pub long : length after ≡ length before
-  pub beyond : drop kept after ≡ drop kept before
-  pub state : sweepAll cost (testsOf P T) (length P) (drop k (survivors P T)) (swept reach spent (take found after)) ≡ sweptBy cost P T
-
 pub none-swept : (P T : List ℤ) (kept : ℕ) (before : List ℕ) → SweptTo P T kept before before 0 0 0 0
 unfolding sweptBy
 none-swept P T kept before =
@@ -153,6 +144,32 @@ none-swept P T kept before =
       long = refl;
       beyond = refl;
       state = refl;
+    }
+
+-- seen from where it has come to, and from where it began
+pub from-here : {P T : List ℤ} {kept : ℕ} {before l : List ℕ} {k reach spent found : ℕ} → SweptTo P T kept before l k reach spent found → SweptTo P T kept l l k reach spent found
+from-here s =
+    record {
+      within = s .within;
+      few = s .few;
+      reached = s .reached;
+      bound = s .bound;
+      long = refl;
+      beyond = refl;
+      state = s .state;
+    }
+
+pub from-there : {P T : List ℤ} {kept : ℕ} {before l l' : List ℕ} {k reach spent found k' reach' spent' found' : ℕ} → SweptTo P T kept before l k reach spent found
+    → SweptTo P T kept l l' k' reach' spent' found' → SweptTo P T kept before l' k' reach' spent' found'
+from-there s t =
+    record {
+      within = t .within;
+      few = t .few;
+      reached = t .reached;
+      bound = t .bound;
+      long = t .long ∙ s .long;
+      beyond = t .beyond ∙ s .beyond;
+      state = t .state;
     }
 
 -- listing a window or not
@@ -238,6 +255,26 @@ survivor-inside P T k h =
     let b = survivors-below P T (getD (survivors P T) k 0) (mem-at (survivors P T) k h) in
     let w = windowsOf-as (length P) (length T) in
     omega arith
+
+module _ {P : List ℤ} {low high : List ℕ} {T : List ℤ} {buffer : List ℕ} {kept : ℕ} (rows : Kept P low high T buffer kept) where
+  pub rows-number : kept ≡ length (survivors P T)
+  rows-number = kept-number P T kept buffer (rows .held) (rows .kept-long)
+
+  -- there are at most as many as the trace has windows
+  pub rows-few : kept ≤ length T + 1
+  rows-few =
+      let d = duels-and-survivors P T in
+      let w = windowsOf-as (length P) (length T) in
+      let n = rows-number in
+      omega arith
+
+  -- each lies within the trace
+  pub rows-inside : (k : ℕ) → k < kept → getD buffer k 0 + length P ≤ length T
+  rows-inside k h =
+      let n = rows-number in
+      let e = entry-of P T kept buffer k (rows .held) h in
+      let i = survivor-inside P T k (omega arith) in
+      omega arith
 
 -- the same under the code's names
 pub swept-as : {P T : List ℤ} {start from x spent e w : ℕ} {whole : Bool} (reach : ℕ) → start ≡ x → from ≡ max reach start → SweptOne P T start from spent e w whole → SweptOne P T x (max reach x) spent e w whole

@@ -58,12 +58,16 @@ pub record Sweepable (P : List ℤ) (low high : List ℕ) (T : List ℤ) (x from
   pub reached : from ≤ length T
   pub small : before ≤ 1000000
 
--- the survivors, in the first entries of their buffer, and a buffer with room for them
-pub record Sweeps (P : List ℤ) (low high : List ℕ) (T : List ℤ) (buffer : List ℕ) (kept : ℕ) (before : List ℕ) : Type 0 where
+-- the survivors, in the first entries of their buffer
+pub record Kept (P : List ℤ) (low high : List ℕ) (T : List ℤ) (buffer : List ℕ) (kept : ℕ) : Type 0 where
   pub own : OwnNeighbours P low high
   pub trace : length T ≤ traceLimit
   pub held : take kept buffer ≡ survivors P T
   pub kept-long : kept ≤ length buffer
+
+-- and a buffer with room for them
+pub record Sweeps (P : List ℤ) (low high : List ℕ) (T : List ℤ) (buffer : List ℕ) (kept : ℕ) (before : List ℕ) : Type 0 where
+  pub rows : Kept P low high T buffer kept
   pub room : kept ≤ length before
 
 -- what the duels leave, written out

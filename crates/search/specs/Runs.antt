@@ -3,24 +3,20 @@ use Prim.Native.Nat.{ℕ, zero, suc, _+_, _-_, _*_, _≤_, _<_}
 use mathlib.Core.Path.{_≡_}
 use mathlib.Core.List.{List}
 use lib.IntN.{ℤ}
-use lib.ListN.{length, getD, take, drop, set}
+use lib.ListN.{length, getD, drop, set}
 use Rattle.order.specs.declared.steps.Tested.the-variants.{Passed}
-use Rattle.order.specs.Sizes.{at, traceLimit}
+use Rattle.order.specs.Sizes.{at}
 use Rattle.order.specs.Relations.{rel}
 use Rattle.order.specs.PlaceTest.{testOf}
-use Rattle.order.specs.Duels.{survivors}
-use Rattle.tables.specs.Asked.{OwnNeighbours}
+use Rattle.search.specs.Asked.{Kept}
 
 -- the count windows after window w compare at places j and i as w does
 pub record AlikeOn (T : List ℤ) (w count j i : ℕ) : Type 0 where
   pub alike : (k : ℕ) → k < count → rel (at T (w + 1 + k + j)) (at T (w + 1 + k + i)) ≡ rel (at T (w + j)) (at T (w + i))
 
--- survivor k, window w, of the survivors in the first entries of their buffer
+-- survivor k is window w
 pub record Ahead (P : List ℤ) (low high : List ℕ) (T : List ℤ) (buffer : List ℕ) (kept k w : ℕ) : Type 0 where
-  pub own : OwnNeighbours P low high
-  pub trace : length T ≤ traceLimit
-  pub held : take kept buffer ≡ survivors P T
-  pub kept-long : kept ≤ length buffer
+  pub rows : Kept P low high T buffer kept
   pub few : kept ≤ length T + 1
   pub within : k < kept
   pub here : getD buffer k 0 ≡ w
@@ -33,6 +29,12 @@ pub record RunOf (P T : List ℤ) (buffer : List ℕ) (kept k w windows spent : 
   pub total : spent ≡ windows * each
   pub beside : (i : ℕ) → i < windows → getD buffer (k + 1 + i) 0 ≡ w + 1 + i
   pub passes : (i : ℕ) → i < windows → testOf P (drop (w + 1 + i) T) (length P - 1) ≡ Passed each
+
+-- so many survivors from survivor k on, after a window whose tests have come to its end
+pub record RunAt (P T : List ℤ) (buffer : List ℕ) (kept k reach windows spent : ℕ) : Type 0 where
+  pub first : ℕ
+  pub run : RunOf P T buffer kept (k - 1) first windows spent
+  pub reached : 0 < windows → (0 < k) × (reach ≡ first + length P) × (0 < length P)
 
 -- n entries of the survivors' buffer, from entry k on, listed from entry `found` on
 unfoldable pub listedRun : List ℕ → ℕ → ℕ → ℕ → List ℕ → List ℕ

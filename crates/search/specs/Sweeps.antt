@@ -6,13 +6,24 @@ use mathlib.Core.Bool.{Bool, cond}
 use lib.IntN.{ℤ}
 use lib.ListN.{length, take, drop}
 use Rattle.order.specs.PlaceTest.{cost}
-use Rattle.order.specs.Sweeping.{swept, tests, testsOf, sweepCost, positions}
+use Rattle.order.specs.Duels.{survivors}
+use Rattle.order.specs.Sweeping.{swept, tests, testsOf, sweepAll, sweptBy, sweepCost, positions}
 
 pub record SweptOne (P T : List ℤ) (x from before reach spent : ℕ) (whole : Bool) : Type 0 where
   pub result : (l : List ℕ) → tests cost (testsOf P T) x (x + length P - from) from before l ≡ swept reach spent (l ++ cond whole (x ∷ []) [])
   pub onward : from ≤ reach
   pub until : reach ≤ max from (x + length P)
   pub bound : spent ≤ before + 2 * (reach - from) + 2
+
+-- the first k survivors have been swept
+pub record SweptTo (P T : List ℤ) (kept : ℕ) (before after : List ℕ) (k reach spent found : ℕ) : Type 0 where
+  pub within : k ≤ kept
+  pub few : found ≤ k
+  pub reached : reach ≤ length T
+  pub bound : spent ≤ 2 * (reach + k)
+  pub long : length after ≡ length before
+  pub beyond : drop kept after ≡ drop kept before
+  pub state : sweepAll cost (testsOf P T) (length P) (drop k (survivors P T)) (swept reach spent (take found after)) ≡ sweptBy cost P T
 
 pub record SweepOf (P T : List ℤ) (kept : ℕ) (before after : List ℕ) (spent found : ℕ) : Type 0 where
   pub cost-is : spent ≡ sweepCost P T

@@ -2,11 +2,10 @@
 //
 // Follows docs/RULES.md, "Sweep". A window passes its last place, and at the same cost, if it compares there with its neighbours as a
 // window does that has passed. A block's windows are compared in loops with no test inside, which the compiler turns into steps of
-// four samples; where one fails, the tests are left to the sweep, and the next block is looked at some blocks later.
+// four samples; where one fails, the tests are left to the sweep, one by one.
 
 use order::Place;
 use order::Tested;
-use order::Window;
 use order::smaller;
 use order::test_place;
 use order::wide16;
@@ -16,19 +15,16 @@ ghost use mathlib.Core.Bool.{true};
 ghost use Prim.Native.Nat.{_+_, _≤_, _<_, min};
 ghost use lib.ListN.{length, getD};
 ghost use Rattle.order.specs.Relations.{rel};
-ghost use Rattle.search.specs.Runs.{AlikeOn, Ahead, RunOf, listedRun};
+ghost use Rattle.search.specs.Asked.{Kept};
+ghost use Rattle.search.specs.Runs.{AlikeOn, Ahead, RunOf, RunAt, listedRun};
 
 // The windows of a block.
 const BLOCK: usize = 64;
 
-// The survivors for which no block is looked at after one that failed: each look costs as much as some ten tests.
-const WAIT: usize = 256;
-
-// Survivors that need no tests: how many, what theirs would have cost, and the first survivor after which to look for more.
+// Survivors that need no tests: how many, and what theirs would have cost.
 pub(crate) struct Run {
     pub windows: usize,
     pub spent: u32,
-    pub next: usize,
 }
 
 // Whether a compares with b as c does with d.
@@ -86,20 +82,17 @@ fn block_after(
             return Run {
                 windows: BLOCK,
                 spent: 64 * cost,
-                next: 0,
             };
         }
     }
     Run {
         windows: 0,
         spent: 0,
-        next: k + WAIT,
     }
 }
 
-// The run after survivor k, window w, whose tests came to the sample `reach`: a block, or none. It is looked for only where w passed its
-// last place and no look has failed shortly before.
-pub(crate) fn run_after(
+// The run from survivor k on, where the tests of the one before it have come to the sample `reach`: a block, or none.
+pub(crate) fn run_from(
     pattern: &[i32],
     low: &[u16],
     high: &[u16],
@@ -107,20 +100,20 @@ pub(crate) fn run_after(
     survivors: &[u32],
     kept: usize,
     k: usize,
-    w: Window,
     reach: usize,
-    next: usize,
 ) -> Run
-    requires { ⌜ Ahead (now pattern) (now low) (now high) (now trace) (now survivors) kept k (w .0) × (0 < length (now pattern)) ⌝ }
-    ensures { λ r. ⌜ RunOf (now (pattern .entry)) (now (trace .entry)) (now (survivors .entry)) kept k (w .0) (r .windows) (r .spent) × (0 < r .windows → reach ≡ w .0 + length (now (pattern .entry))) ⌝ }
+    requires { ⌜ Kept (now pattern) (now low) (now high) (now trace) (now survivors) kept × (kept ≤ length (now trace) + 1) × (k < kept) ⌝ }
+    ensures { λ r. ⌜ RunAt (now (pattern .entry)) (now (trace .entry)) (now (survivors .entry)) kept k reach (r .windows) (r .spent) ⌝ }
 {
-    let w = w.0;
-    let far = k + BLOCK;
-    if reach == w + pattern.len() {
-        if next <= k {
-            if far < kept {
-                if wide32(survivors[far]) == w + BLOCK {
-                    return block_after(pattern, low, high, trace, survivors, kept, k, w);
+    if 0 < k {
+        let w = wide32(survivors[k - 1]);
+        let far = k - 1 + BLOCK;
+        if w < reach {
+            if reach == w + pattern.len() {
+                if far < kept {
+                    if wide32(survivors[far]) == w + BLOCK {
+                        return block_after(pattern, low, high, trace, survivors, kept, k - 1, w);
+                    }
                 }
             }
         }
@@ -128,7 +121,6 @@ pub(crate) fn run_after(
     Run {
         windows: 0,
         spent: 0,
-        next,
     }
 }
 

@@ -5,19 +5,23 @@
 // most once, so the sweep spends at most 2(n + S) comparisons. Callers hand over the pattern's own tables and its survivors.
 
 use crate::runs::list_run;
-use crate::runs::run_after;
+use crate::runs::run_from;
 use order::Place;
 use order::Tested;
 use order::Window;
 use order::larger;
+use order::smaller;
 use order::test_place;
 use order::wide32;
 ghost use mathlib.Core.Path.{_≡_};
 ghost use mathlib.Core.Bool.{cond};
-ghost use Prim.Native.Nat.{_+_, _<_};
+ghost use Prim.Native.Nat.{_+_, _≤_, _<_};
 ghost use lib.ListN.{length, set};
 ghost use Rattle.search.specs.Asked.{Sweepable, Sweeps};
-ghost use Rattle.search.specs.Sweeps.{SweptOne, SweepOf};
+ghost use Rattle.search.specs.Sweeps.{SweptOne, SweptTo, SweepOf};
+
+// The survivors that are swept one by one after a look for a run that found none: a look costs as much as some ten of them.
+const MANY: usize = 256;
 
 // Where the tests of one survivor end: E, the comparisons spent so far, and whether all its places passed.
 struct Reached {
@@ -135,7 +139,57 @@ fn list_one(positions: &mut [u32], found: usize, x: u32, whole: bool) -> usize
     found
 }
 
-// All survivors, the first `kept` entries of their buffer.
+// How far the sweep has come: E, the comparisons spent, and how many windows are listed.
+struct Progress {
+    reach: usize,
+    spent: u32,
+    found: usize,
+}
+
+// The survivors from entry `first` of their buffer up to, and not at, entry `to`, one by one.
+fn sweep_some(
+    pattern: &[i32],
+    low: &[u16],
+    high: &[u16],
+    trace: &[i32],
+    survivors: &[u32],
+    kept: usize,
+    first: usize,
+    to: usize,
+    before: Progress,
+    positions: &mut [u32],
+) -> Progress
+    requires { ⌜ Sweeps (now pattern) (now low) (now high) (now trace) (now survivors) kept (now positions) × (first ≤ to) × (to ≤ kept) × SweptTo (now pattern) (now trace) kept (now positions) (now positions) first (before .reach) (before .spent) (before .found) ⌝ }
+    ensures { λ r. ⌜ SweptTo (now (pattern .entry)) (now (trace .entry)) kept (now (positions .entry)) (now (positions .exit)) to (r .reach) (r .spent) (r .found) ⌝ }
+{
+    let mut reach = before.reach;
+    let mut spent = before.spent;
+    let mut found = before.found;
+    for k in first..to {
+        let x = survivors[k];
+        let start = wide32(x);
+        let end = sweep_from(
+            pattern,
+            low,
+            high,
+            trace,
+            Window(start),
+            larger(reach, start),
+            spent,
+        );
+        reach = end.reach;
+        spent = end.spent;
+        found = list_one(positions, found, x, end.whole);
+    }
+    Progress {
+        reach,
+        spent,
+        found,
+    }
+}
+
+// All survivors, the first `kept` entries of their buffer: a block of a run where there is one, and otherwise some one by one before a
+// run is looked for again.
 pub(crate) fn sweep_all(
     pattern: &[i32],
     low: &[u16],
@@ -151,40 +205,41 @@ pub(crate) fn sweep_all(
     let mut reach: usize = 0;
     let mut spent: u32 = 0;
     let mut found: usize = 0;
-    let mut next: usize = 0;
+    let mut some: usize = 1;
     let mut k: usize = 0;
     'turns: while k < kept {
-        let x = survivors[k];
-        let start = wide32(x);
-        let from = larger(reach, start);
-        let end = sweep_from(pattern, low, high, trace, Window(start), from, spent);
-        found = list_one(positions, found, x, end.whole);
-        reach = end.reach;
-        spent = end.spent;
-        // a run comes only after a window whose last place alone was left
-        if from + 1 != start + pattern.len() {
-            k += 1;
+        let run = run_from(pattern, low, high, trace, survivors, kept, k, reach);
+        if run.windows == 0 {
+            let to = smaller(kept, k + some);
+            let before = Progress {
+                reach,
+                spent,
+                found,
+            };
+            let end = sweep_some(
+                pattern,
+                low,
+                high,
+                trace,
+                survivors,
+                kept,
+                k,
+                to,
+                before,
+                positions,
+            );
+            k = to;
+            reach = end.reach;
+            spent = end.spent;
+            found = end.found;
+            some = MANY;
             continue 'turns;
         }
-        let run = run_after(
-            pattern,
-            low,
-            high,
-            trace,
-            survivors,
-            kept,
-            k,
-            Window(start),
-            reach,
-            next,
-        );
-        k += 1;
         list_run(survivors, k, run.windows, positions, found);
         k += run.windows;
         reach += run.windows;
         spent += run.spent;
         found += run.windows;
-        next = run.next;
     }
     Swept { spent, found }
 }

@@ -4,7 +4,6 @@ use Prim.Native.Nat.{_+_}
 use mathlib.Core.Path.{sym}
 use native.Mathlib.Omega.{arith}
 use denote.Ref.{now}
-use lib.ListN.{length}
 use Rattle.search.proofs.MeetingByTable.{far-agree, by-offset, none-agrees}
 use borrow.Author.Needs.{needs}
 use borrow.Author.Tests.{eqb-true}

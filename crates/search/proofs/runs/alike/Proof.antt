@@ -1,7 +1,6 @@
 -- `alike` meets its contract: the two tests tell the relation.
 -- Assumes nothing.
 use Rattle.search.proofs.RunLaws.{alike-bits}
-use borrow.Author.Needs.{needs}
 use Rattle.search.proofs.runs.alike.Statement.{statement}
 use Rattle.search.proofs.runs.alike.Tie as tie
 

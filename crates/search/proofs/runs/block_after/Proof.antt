@@ -52,13 +52,13 @@ block-alike-requires c κs =
     let s = c .before .before .before .before .before .before .before .before .before .before in
     let i = all-inside (s .pre .0) 64 (s .pre .2) (s .pre .3) in
     let m = s .pre .1 in
-    (omega arith, s .pre .0 .trace)
+    (omega arith, s .pre .0 .rows .trace)
 
 mul-t26 : tie.Need-mul-t26
 mul-t26 c =
     let s = c .before .before .before .before .before .before .before .before .before .before .before .before in
     let h : length (now (s .args .pattern)) - 1 < length (now (s .args .pattern)) = let m = s .pre .1 in omega arith in
-    let q = sym (own-test (now (s .args .trace)) (s .args .w) (length (now (s .args .pattern)) - 1) (s .pre .0 .own) (s .pre .0 .inside) h) ∙ sym (c .before .before .before .before .before .test-place .ensures) ∙ c .before .before .before .cost .given .1 in
+    let q = sym (own-test (now (s .args .trace)) (s .args .w) (length (now (s .args .pattern)) - 1) (s .pre .0 .rows .own) (s .pre .0 .inside) h) ∙ sym (c .before .before .before .before .before .test-place .ensures) ∙ c .before .before .before .cost .given .1 in
     let k = cheap-pass (now (s .args .pattern)) (drop (s .args .w) (now (s .args .trace))) (length (now (s .args .pattern)) - 1) (c .before .before .before .cost .given .0 .0) q in
     omega arith
 
@@ -66,18 +66,18 @@ returns : tie.Need-returns
 returns c =
     let s = c .before .before .before .before .before .before .before .before .before .before .before .before in
     let h : length (now (s .args .pattern)) - 1 < length (now (s .args .pattern)) = let m = s .pre .1 in omega arith in
-    let q = sym (own-test (now (s .args .trace)) (s .args .w) (length (now (s .args .pattern)) - 1) (s .pre .0 .own) (s .pre .0 .inside) h) ∙ sym (c .before .before .before .before .before .test-place .ensures) ∙ c .before .before .before .cost .given .1 in
+    let q = sym (own-test (now (s .args .trace)) (s .args .w) (length (now (s .args .pattern)) - 1) (s .pre .0 .rows .own) (s .pre .0 .inside) h) ∙ sym (c .before .before .before .before .before .test-place .ensures) ∙ c .before .before .before .cost .given .1 in
     let alike = c .before .block-alike .ensures (c .if1 .taken) in
     a-run (s .pre .0) 64 (s .pre .2) (s .pre .3) (s .pre .1) q (alike .0) (alike .1)
 
 enum-told : tie.Need-enum-told
 enum-told c = search needs
 
-add-t14 : tie.Need-add-t14
-add-t14 c = search needs
-
 returns-2 : tie.Need-returns-2
-returns-2 c = no-run (c .before .before .before .before .before .before .before .before .pre .0)
+returns-2 c = no-run _ _ _ _ _ _ (c .before .before .before .before .before .before .before .before .before .before .before .before .pre .0 .within)
+
+returns-3 : tie.Need-returns-3
+returns-3 c = no-run _ _ _ _ _ _ (c .before .before .before .before .before .before .before .before .before .pre .0 .within)
 
 pub block-after-spec : {M : Type 1} → statement M
 block-after-spec =
@@ -99,5 +99,5 @@ block-after-spec =
     mul-t26
     returns
     enum-told
-    add-t14
-    returns-2)
+    returns-2
+    returns-3)

@@ -1,6 +1,6 @@
 -- `block_alike` meets its contract.
 -- Assumes nothing.
-use mathlib.Core.Path.{_≡_, ap, subst, _∙_}
+use mathlib.Core.Path.{ap, subst, _∙_}
 use Prim.Native.Nat.{ℕ, min}
 use denote.Ref.{now}
 use Rattle.order.proofs.Tests.{and-first, and-second}

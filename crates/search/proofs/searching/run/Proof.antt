@@ -24,7 +24,7 @@ list-positions-requires c κs =
     let n = s .pre .number in
     let p = s .pre .positions-room in
     record {
-      sweeps = record { own = s .pre .neighbours; trace = s .pre .trace; held = h .0; kept-long = h .1; room = omega arith };
+      sweeps = record { rows = record { own = s .pre .neighbours; trace = s .pre .trace; held = h .0; kept-long = h .1 }; room = omega arith };
       number = n;
       room = omega arith;
       few = omega arith;

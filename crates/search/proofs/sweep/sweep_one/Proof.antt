@@ -4,7 +4,7 @@ use Prim.Native.Nat.{_+_, _-_}
 use mathlib.Core.Path.{sym, _∙_}
 use native.Mathlib.Omega.{arith}
 use denote.Ref.{now}
-use lib.ListN.{length, drop}
+use lib.ListN.{drop}
 use Rattle.search.proofs.SweepSteps.{own-test, Sweeping, begin-at, passed-on, ended-there, came-through, cheap-pass, cheap-fail}
 use borrow.Author.Needs.{needs}
 use Rattle.search.proofs.sweep.sweep_one.Statement.{statement}
