@@ -9,12 +9,6 @@ use Rattle.order.specs.Sizes.{Spot, none, place, entry, noPlace}
 pub record Below (n : ℕ) (s : Spot) : Type 0 where
   pub below : (i : ℕ) → s ≡ place i → i < n
 
-pub none-below : (n : ℕ) → Below n none
-none-below n = record { below = λ i e. let z : _≡_ {A = ℕ} 0 1 = cc in omega arith }
-
-pub place-below : {n i : ℕ} → i < n → Below n (place i)
-place-below {n} {i} h = record { below = λ k e. let q : i ≡ k = cc in omega arith }
-
 pub entry-none : {n : ℕ} (s : Spot) → Below n s → n ≤ noPlace → entry s ≡ noPlace → s ≡ none
 unfolding entry
 entry-none none b h e = refl
@@ -32,7 +26,3 @@ entry-of-place i = refl
 pub entry-of-none : entry none ≡ noPlace
 unfolding entry
 entry-of-none = refl
-
--- the place behind an entry lies below n
-pub entry-below : {n : ℕ} (s : Spot) → Below n s → (entry s ≡ noPlace → ⊥) → entry s < n
-entry-below s b f = b .below (entry s) (entry-place s f)
