@@ -37,8 +37,15 @@ static void fail(const char *what)
     exit(1);
 }
 
-/* A touched edge: tells the case. The attribute is for emulators that hand over a stack which is not aligned. */
-__attribute__((force_align_arg_pointer)) static void touched(int number)
+/* Emulators of x86-64 may hand over a stack that is not aligned. */
+#ifdef __x86_64__
+#define ALIGNED __attribute__((force_align_arg_pointer))
+#else
+#define ALIGNED
+#endif
+
+/* A touched edge: tells the case. */
+ALIGNED static void touched(int number)
 {
     (void)number;
     fail("a byte outside a buffer was read or written");

@@ -1,34 +1,19 @@
 #!/usr/bin/env bash
 # `make count`: the instructions of one call of tension_search and of one of the same algorithm in C, and their ratio, on three rows of
-# the comparison. Counted by valgrind where the machine is x86-64, elsewhere by a plugin of the emulator; no time comes into it.
-# Both count an instruction that repeats itself once a byte, which would make a buffer's clearing weigh as much as a search, so the C
-# library is told not to fill and copy by such instructions.
+# the comparison; no time comes into it. valgrind counts them for the machine at hand. Where that is not x86-64 a plugin of the emulator
+# counts those of the archive itself too. Both count an instruction that repeats itself once for each time, which would make the clearing
+# of a buffer weigh as much as a search, so the C library is told not to fill and copy by such instructions.
 set -euo pipefail
 cd "$(dirname "$0")/../.."
 work=$(mktemp -d)
 trap 'rm -rf "$work"' EXIT
 . host/compare/build.inc
-build_for_x86
-
 export GLIBC_TUNABLES=glibc.cpu.x86_rep_stosb_threshold=1073741824:glibc.cpu.x86_rep_movsb_threshold=1073741824
 
-# instructions PROGRAM ARGUMENT..: all that the program executes
+# instructions PROGRAM ARGUMENT..: all that the program executes, by `counter`
 instructions() {
   "${counter[@]}" "$@" 2>&1 >/dev/null | sed -n 's/.*Collected : *//p'
 }
-
-if [ "$native" = yes ]; then
-  want valgrind=valgrind
-  counter=(valgrind --tool=callgrind --callgrind-out-file=/dev/null)
-else
-  want gcc=gcc
-  counter=("${run[@]}" -plugin "$work/plugin.so")
-  # emulators take different versions of the plugins' interface; the calls used are the same in all of them
-  for version in 1 2 3 4 5 6; do
-    gcc -shared -fPIC -O2 -Wall -Wextra -DVERSION="$version" host/compare/plugin.c -o "$work/plugin.so"
-    [ -z "$(instructions "$work/compare" --count ours random 4 64 1)" ] || break
-  done
-fi
 
 # a_call WHO KIND M N: three calls less one call are two calls; all else that the program does falls out
 a_call() {
@@ -36,16 +21,39 @@ a_call() {
   one=$(instructions "$work/compare" --count "$@" 1)
   three=$(instructions "$work/compare" --count "$@" 3)
   if [ -z "$one" ] || [ -z "$three" ]; then
-    echo "instructions can't be counted by ${counter[0]} on this machine ($(uname -m)); make count needs an x86-64 machine" >&2
+    echo "instructions can't be counted by ${counter[0]} on this machine ($(uname -m))" >&2
     exit 1
   fi
   echo $(((three - one) / 2))
 }
 
-printf '%-9s %5s %6s %14s %14s %8s\n' trace m n 'ours (instr.)' 'same C' ratio
-for row in "random 4 65536" "walk 128 2048" "random 1024 2048"; do
-  read -r kind m n <<<"$row"
-  ours=$(a_call ours "$kind" "$m" "$n")
-  same=$(a_call same "$kind" "$m" "$n")
-  printf '%-9s %5s %6s %14s %14s %8s\n' "$kind" "$m" "$n" "$ours" "$same" "$(python3 -c "print(f'{$ours / $same:.3f}')")"
-done
+# count_rows COUNTER..: the table, counted by COUNTER
+count_rows() {
+  local kind m n ours same
+  counter=("$@")
+  printf '%-9s %5s %6s %14s %14s %8s\n' trace m n 'ours (instr.)' 'same C' ratio
+  for row in "random 4 65536" "walk 128 2048" "random 1024 2048"; do
+    read -r kind m n <<<"$row"
+    ours=$(a_call ours "$kind" "$m" "$n")
+    same=$(a_call same "$kind" "$m" "$n")
+    printf '%-9s %5s %6s %14s %14s %8s\n' "$kind" "$m" "$n" "$ours" "$same" "$(python3 -c "print(f'{$ours / $same:.3f}')")"
+  done
+}
+
+want valgrind=valgrind
+echo "code for this machine ($(uname -m)), counted by valgrind"
+build_for_here
+count_rows valgrind --tool=callgrind --callgrind-out-file=/dev/null
+
+if [ "$native" = no ]; then
+  echo
+  echo "the archive itself (x86-64), counted by a plugin of the emulator"
+  build_for_x86
+  # emulators take different versions of the plugins' interface; the calls used are the same in all of them
+  for version in 1 2 3 4 5 6; do
+    gcc -shared -fPIC -O2 -Wall -Wextra -DVERSION="$version" host/compare/plugin.c -o "$work/plugin.so"
+    counter=("${run[@]}" -plugin "$work/plugin.so")
+    [ -z "$(instructions "$work/compare" --count ours random 4 64 1)" ] || break
+  done
+  count_rows "${run[@]}" -plugin "$work/plugin.so"
+fi

@@ -2,7 +2,7 @@
 //
 // Follows docs/RULES.md, "Duels", "Sweep", "Counts", "What is written" and "Refusals" (Jargalsaikhan 2022, section 3). Sizes
 // are looked at first, then the tables, then the work is done: a refused call has stored nothing. Duels and sweep take at most
-// N + 2(n + S) comparisons; the check of the tables takes what preparing them does.
+// N + 2(n + S) comparisons; `tables::check_tables` says what the check of the tables takes.
 
 use crate::answers::Searched;
 use crate::duels::Duelled;

@@ -2,7 +2,8 @@
 // earlier one has passed. A survivor that passes all its places is listed.
 //
 // Follows docs/RULES.md, "Sweep" (Jargalsaikhan 2022, section 3, counted from zero). E only rises and each survivor fails at
-// most once, so the sweep spends at most 2(n + S) comparisons. Callers hand over the pattern's own tables and its survivors.
+// most once, so the sweep spends at most 2(n + S) comparisons. Where survivors start one after the other they may be passed in
+// blocks (runs.rt), at what their tests would have cost. Callers hand over the pattern's own tables and its survivors.
 
 use crate::runs::list_run;
 use crate::runs::run_from;
