@@ -8,6 +8,7 @@
 mod input;
 mod output;
 
+use agreement::Agreement;
 use input::fill_samples;
 use input::read_entries;
 use input::read_number;
@@ -24,7 +25,6 @@ use output::put_text;
 use output::put_windows;
 use recording::Reading;
 use report::Reported;
-use search::Agreement;
 use search::Searched;
 use tables::Prepared;
 
@@ -307,7 +307,7 @@ fn replay_agree(out: &mut [u8]) -> usize {
     let j = smaller(b, TABLE);
     let x = read_number(4);
     let y = read_number(4);
-    let answer = search::agree(m, &witness_i[0..i], &witness_j[0..j], Window(x), Window(y));
+    let answer = agreement::agree(m, &witness_i[0..i], &witness_j[0..j], Window(x), Window(y));
     put_agreement(out, answer)
 }
 

@@ -1,6 +1,5 @@
 -- The laws that the functions' proofs cite, in the order of the argument.
 pub mod SearchVerdicts
-pub mod Agreed
 pub mod MeetingByTable
 pub mod CodeLaws
 pub mod StackLaws

@@ -1,7 +1,5 @@
--- What the calls of this crate answer and promise, over the rules of the crate `order`, and what its functions ask of each
+-- What a search answers and promises, over the rules of the crate `order`, and what the functions of this crate ask of each
 -- other.
-pub mod Answers
-pub mod Promises
 pub mod Codes
 pub mod Asked
 pub mod Stacks

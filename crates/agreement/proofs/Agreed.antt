@@ -15,10 +15,10 @@ use Rattle.order.specs.declared.refusal.Refusal.{Refusal}
 use Rattle.tables.specs.declared.answers.Checked.the-variants.{Fine, Refused}
 use Rattle.tables.specs.Answers.{checkedBy}
 use Rattle.tables.proofs.Verdicts.{fine-accepted, refused-why}
-use Rattle.search.specs.declared.answers.Agreement.{Agreement}
-use Rattle.search.specs.declared.answers.Agreement.the-variants.{Refused as NotCompared}
-use Rattle.search.specs.Answers.{agreementNumber, agreementPlace, saysAgree, agreementOf, agreementBy}
-use Rattle.search.specs.Promises.{AgreePromise}
+use Rattle.agreement.specs.declared.answers.Agreement.{Agreement}
+use Rattle.agreement.specs.declared.answers.Agreement.the-variants.{Refused as NotCompared}
+use Rattle.agreement.specs.Answers.{agreementNumber, agreementPlace, saysAgree, agreementOf, agreementBy}
+use Rattle.agreement.specs.Promises.{AgreePromise}
 
 agreement-number : (w : Verdict) (b : Bool) → agreementNumber (agreementBy w b) ≡ verdictNumber w
 agreement-number accepted true = refl

@@ -14,8 +14,8 @@ ghost use Prim.Native.Nat.{_≤_};
 ghost use lib.Dec.{leb, eqb};
 ghost use lib.ListN.{length, getD};
 ghost use Rattle.order.specs.Sizes.{noPlace};
-ghost use Rattle.search.specs.Answers.{agreementOf};
-ghost use Rattle.search.specs.Promises.{AgreePromise};
+ghost use Rattle.agreement.specs.Answers.{agreementOf};
+ghost use Rattle.agreement.specs.Promises.{AgreePromise};
 
 // Whether windows at an offset agree, by the table of first entries.
 fn agree_at(m: usize, witness_i: &[u16], offset: Offset) -> Agreement

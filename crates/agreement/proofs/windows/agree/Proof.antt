@@ -2,13 +2,13 @@
 -- Assumes nothing.
 use mathlib.Core.Path.{sym, _∙_}
 use Rattle.tables.proofs.Verdicts.{fine-accepted, agree-room}
-use Rattle.search.proofs.Agreed.{agree-refused, agree-compared}
+use Rattle.agreement.proofs.Agreed.{agree-refused, agree-compared}
 use denote.Ref.{now}
 use lib.ListN.{length}
 use Rattle.order.specs.Refusals.{agreeVerdict}
 use borrow.Author.Needs.{needs}
-use Rattle.search.proofs.windows.agree.Statement.{statement}
-use Rattle.search.proofs.windows.agree.Tie as tie
+use Rattle.agreement.proofs.windows.agree.Statement.{statement}
+use Rattle.agreement.proofs.windows.agree.Tie as tie
 
 check-agree-requires : tie.Need-check-agree-requires
 check-agree-requires c κs = search needs

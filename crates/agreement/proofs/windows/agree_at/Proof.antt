@@ -2,8 +2,8 @@
 -- Assumes nothing.
 use borrow.Author.Tests.{eq-eqb, ne-eqb, le-leb, lt-leb}
 use borrow.Author.Needs.{needs}
-use Rattle.search.proofs.windows.agree_at.Statement.{statement}
-use Rattle.search.proofs.windows.agree_at.Tie as tie
+use Rattle.agreement.proofs.windows.agree_at.Statement.{statement}
+use Rattle.agreement.proofs.windows.agree_at.Tie as tie
 
 returns : tie.Need-returns
 returns c = simp (eq-eqb _ _ (c .if1 .taken))

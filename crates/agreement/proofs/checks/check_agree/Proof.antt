@@ -2,8 +2,8 @@
 -- Assumes nothing.
 use borrow.Author.Tests.{eq-eqb, ne-eqb, lt-ltb, le-ltb}
 use Rattle.order.specs.Refusals.{agreeVerdict, patternVerdict, witnessesVerdict}
-use Rattle.search.proofs.checks.check_agree.Statement.{statement}
-use Rattle.search.proofs.checks.check_agree.Tie as tie
+use Rattle.agreement.proofs.checks.check_agree.Statement.{statement}
+use Rattle.agreement.proofs.checks.check_agree.Tie as tie
 
 returns : tie.Need-returns
 unfolding agreeVerdict patternVerdict witnessesVerdict

@@ -3,8 +3,8 @@
 use Prim.Native.Nat.{ℕ}
 use mathlib.Core.Bool.{Bool, true, false}
 use Rattle.order.specs.Refusals.{Verdict, accepted, refused, numberOf, placeOf}
-use Rattle.search.specs.declared.answers.Agreement.{Agreement}
-use Rattle.search.specs.declared.answers.Agreement.the-variants.{Agree, Differ, Refused as NotCompared}
+use Rattle.agreement.specs.declared.answers.Agreement.{Agreement}
+use Rattle.agreement.specs.declared.answers.Agreement.the-variants.{Agree, Differ, Refused as NotCompared}
 
 abbrev pub agreementNumber : Agreement → ℕ
 agreementNumber Agree = 0

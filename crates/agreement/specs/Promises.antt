@@ -5,8 +5,8 @@ use mathlib.Core.List.{List}
 use lib.ListN.{length}
 use Rattle.order.specs.Agree.{agreeByTable}
 use Rattle.order.specs.Refusals.{accepted, agreeVerdict, verdictNumber, verdictPlace}
-use Rattle.search.specs.declared.answers.Agreement.{Agreement}
-use Rattle.search.specs.Answers.{agreementNumber, agreementPlace, saysAgree, agreementBy}
+use Rattle.agreement.specs.declared.answers.Agreement.{Agreement}
+use Rattle.agreement.specs.Answers.{agreementNumber, agreementPlace, saysAgree, agreementBy}
 
 -- the call on windows x and y of a pattern of m samples, by witness tables that hold wi and wj as they stand
 pub record AgreePromise (m : ℕ) (wi wj : List ℕ) (x y : ℕ) (r : Agreement) : Type 0 where
