@@ -1,8 +1,8 @@
 #!/usr/bin/env bash
 # `make count`: the instructions of one call of tension_search and of one of the same algorithm in C, and their ratio, on three rows of
 # the comparison; no time comes into it. valgrind counts them for the machine at hand. Where that is not x86-64 a plugin of the emulator
-# counts those of the archive itself too. Both count an instruction that repeats itself once for each time, which would make the clearing
-# of a buffer weigh as much as a search, so the C library is told not to fill and copy by such instructions.
+# counts those of the archive itself too. It counts an x86-64 instruction that repeats itself once for each time, which would make the
+# clearing of a buffer weigh as much as a search, so the C library is told not to fill and copy by such instructions.
 set -euo pipefail
 cd "$(dirname "$0")/../.."
 work=$(mktemp -d)
