@@ -35,14 +35,14 @@ use Rattle.search.proofs.SweepSteps.{last-passed, next-swept, entry-of,
 
 -- ---- comparisons alike
 
-pub same-truth : (s t : Bool) → Bool·beq s t ≡ true → s ≡ t
+same-truth : (s t : Bool) → Bool·beq s t ≡ true → s ≡ t
 same-truth true true e = refl
 same-truth true false e = sym e
 same-truth false true e = e
 same-truth false false e = refl
 
 -- the two tests tell the relation
-pub rel-by-tests : (a b c d : ℤ) → ltZ a b ≡ ltZ c d → ltZ b a ≡ ltZ d c → rel a b ≡ rel c d
+rel-by-tests : (a b c d : ℤ) → ltZ a b ≡ ltZ c d → ltZ b a ≡ ltZ d c → rel a b ≡ rel c d
 rel-by-tests a b c d e f = go (ltZ a b) (ltZ b a) refl refl
   where
     go : (s t : Bool) → ltZ a b ≡ s → ltZ b a ≡ t → rel a b ≡ rel c d
