@@ -4,11 +4,13 @@ DESTDIR ?=
 
 .PHONY: run test cases host install compare count
 
-# proves and builds the program, and searches the recording in examples/
+# proves and builds the program, saying which crate is proved, and searches the recording in examples/; target/run.log has all that
+# the check says. A file tells whether it passed, since sh has only the status of a pipe's end.
 run:
 	@echo "Proving and building bench (the first time takes some minutes) .."
-	@mkdir -p target
-	@rt check bench > target/run.log 2>&1 || { tail -n 20 target/run.log; exit 1; }
+	@mkdir -p target && rm -f target/run.passed
+	@{ rt check bench 2>&1 && touch target/run.passed; } | tee target/run.log | grep --line-buffered '^rt: .* proved (' || true
+	@[ -e target/run.passed ] || { tail -n 20 target/run.log; exit 1; }
 	@echo "examples/start target/bin/bench < examples/ribbing.krec"
 	@examples/start target/bin/bench < examples/ribbing.krec
 

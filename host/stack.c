@@ -1,83 +1,379 @@
 /*
- * stack.c - measures the stack that each call takes: the call runs on a thread whose stack was painted, and what is no longer
- * painted was used. Prints bytes, and ends with status 1 where a limit of docs/HOST.md is passed.
+ * stack.c - measures the stack that the calls take: each runs on a painted stack, and what is no longer painted below the caller's
+ * frame was used. The path of a call depends on the pattern, the tables and the lengths, so all kinds of these are tried.
+ *
+ * Prints a line for each group of calls: the most bytes that one took, the first that took them, the limit of docs/HOST.md, and how
+ * many of the bytes were written. Ends with status 1 where a call takes or writes more than its limit or answers anything but what
+ * it must. So it does where a call writes no more than one with smaller arrays may: the limits would then no longer show that a
+ * trace is searched in larger arrays than it needs, which the proofs allow.
  */
 #define _GNU_SOURCE
-#include <pthread.h>
+#include <stdarg.h>
 #include <stdio.h>
 #include <stdlib.h>
 #include <string.h>
+#include <ucontext.h>
 
 #include "tension.h"
 
-enum { STACK = 4 << 20, PAINT = 0x5C };
+/* Exported for the compiler's sake and in no header: docs/HOST.md tells why. */
+uint64_t tension_search_large(const uint8_t *pattern, size_t pattern_bytes, const uint8_t *low, size_t low_bytes,
+                              const uint8_t *high, size_t high_bytes, const uint8_t *witness_i, size_t witness_i_bytes,
+                              const uint8_t *witness_j, size_t witness_j_bytes, const uint8_t *trace, size_t trace_bytes,
+                              uint8_t *survivors, size_t survivors_bytes, uint8_t *positions, size_t positions_bytes,
+                              uint8_t *counts, size_t counts_bytes);
 
-static uint8_t pattern[4 * TENSION_PATTERN_LIMIT], trace[4 * TENSION_TRACE_LIMIT];
-static uint8_t low[2 * TENSION_PATTERN_LIMIT], high[2 * TENSION_PATTERN_LIMIT];
-static uint8_t witness_i[2 * TENSION_PATTERN_LIMIT], witness_j[2 * TENSION_PATTERN_LIMIT];
-static uint8_t survivors[4 * TENSION_TRACE_LIMIT], positions[4 * TENSION_TRACE_LIMIT], counts[4 * TENSION_COUNTS];
-static size_t samples;
+/*
+ * Groups of calls, and what holds for each call of a group: it takes no more than `limit` bytes of stack, and of these it writes more
+ * than `above` and, where `written` is not 0, no more than that. Searches are grouped by the size of their arrays, which are cleared
+ * first. The two small sizes share a frame, so only the bytes that are written tell them apart.
+ */
+enum {
+    PREPARED, PREPARE_REFUSED,
+    BRIEF, BRIEF_FOREIGN,
+    SMALL, SMALL_FOREIGN, SMALL_REFUSED,
+    LONG, LONG_FOREIGN, LONG_REFUSED,
+    LARGE, LARGE_REFUSED,
+    GROUPS
+};
+
+enum { PREPARE_LIMIT = 15000, BRIEF_WRITTEN = 30000, SMALL_LIMIT = 54000, LARGE_LIMIT = 960000 };
+
+static const struct group {
+    const char *what;
+    size_t limit, above, written;
+} groups[GROUPS] = {
+    [PREPARED] = {"tension_prepare", PREPARE_LIMIT, 0, 0},
+    [PREPARE_REFUSED] = {"tension_prepare, refused", PREPARE_LIMIT, 0, 0},
+    [BRIEF] = {"tension_search, trace up to 256", SMALL_LIMIT, 0, BRIEF_WRITTEN},
+    [BRIEF_FOREIGN] = {"tension_search, trace up to 256, foreign entry", SMALL_LIMIT, 0, BRIEF_WRITTEN},
+    [SMALL] = {"tension_search, trace 257 to 2048", SMALL_LIMIT, BRIEF_WRITTEN, 0},
+    [SMALL_FOREIGN] = {"tension_search, trace 257 to 2048, foreign entry", SMALL_LIMIT, BRIEF_WRITTEN, 0},
+    [SMALL_REFUSED] = {"tension_search, trace up to 2048, length refused", SMALL_LIMIT, 0, 0},
+    [LONG] = {"tension_search, longer trace", LARGE_LIMIT, SMALL_LIMIT, 0},
+    [LONG_FOREIGN] = {"tension_search, longer trace, foreign entry", LARGE_LIMIT, SMALL_LIMIT, 0},
+    [LONG_REFUSED] = {"tension_search, longer trace, length refused", LARGE_LIMIT, 0, 0},
+    [LARGE] = {"tension_search_large", LARGE_LIMIT, SMALL_LIMIT, 0},
+    [LARGE_REFUSED] = {"tension_search_large, length refused", LARGE_LIMIT, 0, 0},
+};
+
+/* A number of bytes, and the call that it was seen at. */
+struct seen {
+    size_t bytes;
+    char at[128];
+};
+
+/* Of each group: the most bytes of stack that a call took, and the most and the fewest that one wrote. */
+static struct seen most[GROUPS], fullest[GROUPS], emptiest[GROUPS];
+
+/* The buffers of a call, each with room for one entry more than the longest trace has, and the bytes of it that are handed over. */
+enum { PATTERN, LOW, HIGH, WITNESS_I, WITNESS_J, TRACE, SURVIVORS, POSITIONS, COUNTS, BUFFERS };
+
+static uint8_t buffers[BUFFERS][4 * (TENSION_TRACE_LIMIT + 1)];
+static size_t bytes[BUFFERS];
 static uint64_t answer;
 
-static void *nothing(void *unused)
+#define BUFFER(b) buffers[b], bytes[b]
+#define TABLES BUFFER(LOW), BUFFER(HIGH), BUFFER(WITNESS_I), BUFFER(WITNESS_J)
+#define LISTS BUFFER(SURVIVORS), BUFFER(POSITIONS), BUFFER(COUNTS)
+
+static void prepare(void)
 {
-    return unused;
+    answer = tension_prepare(BUFFER(PATTERN), TABLES);
 }
 
-static void *prepare(void *unused)
+static void search(void)
 {
-    answer = tension_prepare(pattern, sizeof pattern, low, sizeof low, high, sizeof high, witness_i, sizeof witness_i,
-                             witness_j, sizeof witness_j);
-    return unused;
+    answer = tension_search(BUFFER(PATTERN), TABLES, BUFFER(TRACE), LISTS);
 }
 
-static void *search(void *unused)
+static void search_large(void)
 {
-    answer = tension_search(pattern, sizeof pattern, low, sizeof low, high, sizeof high, witness_i, sizeof witness_i,
-                            witness_j, sizeof witness_j, trace, 4 * samples, survivors, sizeof survivors, positions,
-                            sizeof positions, counts, sizeof counts);
-    return unused;
+    answer = tension_search_large(BUFFER(PATTERN), TABLES, BUFFER(TRACE), LISTS);
 }
 
-/* The bytes of a painted stack that a call has touched. */
-static size_t used(void *(*call)(void *))
-{
-    uint8_t *stack = aligned_alloc(4096, STACK);
-    pthread_attr_t attributes;
-    pthread_t thread;
-    size_t k = 0;
+/* The painted stack, in words that no call is likely to leave there. Below `lowest` nothing has been touched since it was painted. */
+enum { WORDS = (2 << 20) / 8 };
 
-    memset(stack, PAINT, STACK);
-    pthread_attr_init(&attributes);
-    pthread_attr_setstack(&attributes, stack, STACK);
-    answer = 0;
-    if (pthread_create(&thread, &attributes, call, NULL) != 0 || pthread_join(thread, NULL) != 0) {
-        fprintf(stderr, "no thread\n");
+static uint64_t stack[WORDS], *lowest = stack;
+static const uint64_t paint = 0x5C3A96E1D2780F4B;
+static ucontext_t outside, inside;
+static void (*call)(void);
+static uint8_t *frame;
+
+static void start(void)
+{
+    frame = __builtin_frame_address(0);
+    call();
+}
+
+/* Makes a call: the bytes of stack that it takes below the frame that makes it, its arguments among them, and how many it writes. */
+static size_t used(void (*what)(void), size_t *written)
+{
+    uint64_t *word;
+
+    for (word = lowest; word < stack + WORDS; word++)
+        *word = paint;
+    call = what;
+    getcontext(&inside);
+    inside.uc_stack.ss_sp = stack;
+    inside.uc_stack.ss_size = sizeof stack;
+    inside.uc_link = &outside;
+    makecontext(&inside, start, 0);
+    swapcontext(&outside, &inside);
+    for (lowest = stack; *lowest == paint; lowest++)
+        ;
+    if (lowest == stack) {
+        fprintf(stderr, "a call took all of the painted stack\n");
         exit(1);
     }
-    if (answer) {
-        fprintf(stderr, "refused\n");
-        exit(1);
-    }
-    while (k < STACK && stack[k] == PAINT)
-        k++;
-    free(stack);
-    return STACK - k;
+    *written = 0;
+    for (word = lowest; (uint8_t *)word < frame; word++)
+        *written += *word == paint ? 0 : sizeof *word;
+    return (size_t)(frame - (uint8_t *)lowest);
 }
 
-static int within(const char *what, size_t bytes, size_t limit)
+static void note(struct seen *seen, size_t count, const char *name)
 {
-    printf("%s %lu bytes of stack (limit %lu)\n", what, (unsigned long)bytes, (unsigned long)limit);
-    return bytes <= limit;
+    seen->bytes = count;
+    snprintf(seen->at, sizeof seen->at, "%s", name);
+}
+
+/* Makes a call, holds its answer to the one that it must give, and notes its bytes in a group. The format names the call. */
+__attribute__((format(printf, 4, 5))) static void measure(int group, void (*what)(void), uint64_t must, const char *format, ...)
+{
+    char name[128];
+    size_t taken, written;
+    va_list parts;
+
+    va_start(parts, format);
+    vsnprintf(name, sizeof name, format, parts);
+    va_end(parts);
+    answer = ~must;
+    taken = used(what, &written);
+    if (answer != must) {
+        fprintf(stderr, "%s (%s): answers %u, place %u, and must answer %u, place %u\n", groups[group].what, name,
+                TENSION_NUMBER(answer), TENSION_PLACE(answer), TENSION_NUMBER(must), TENSION_PLACE(must));
+        exit(1);
+    }
+    if (emptiest[group].bytes == 0 || written < emptiest[group].bytes)
+        note(&emptiest[group], written, name);
+    if (written > fullest[group].bytes)
+        note(&fullest[group], written, name);
+    if (taken > most[group].bytes)
+        note(&most[group], taken, name);
+}
+
+static uint64_t refusal(uint32_t number, size_t place)
+{
+    return (uint64_t)number << 32 | place;
+}
+
+/* Kinds of patterns. The first three agree with themselves one sample on, so that windows beside each other have no duels. */
+enum { LEVEL, RISING, FALLING, ALTERNATING, SAWTOOTH, TIED, RANDOM, KINDS };
+
+static const char *const kinds[KINDS] = {"level", "rising", "falling", "alternating", "sawtooth", "tied", "random"};
+
+static int32_t scrambled(size_t k)
+{
+    uint64_t x = (k + 1) * 0x9E3779B97F4A7C15;
+    x = (x ^ x >> 29) * 0xBF58476D1CE4E5B9;
+    return (int32_t)(uint32_t)(x >> 32);
+}
+
+static int32_t sample(int kind, size_t k)
+{
+    switch (kind) {
+    case LEVEL: return 5;
+    case RISING: return (int32_t)k;
+    case FALLING: return -(int32_t)k;
+    case ALTERNATING: return (int32_t)(k % 2);
+    case SAWTOOTH: return (int32_t)(k % 37);
+    case TIED: return scrambled(k) & 3;
+    default: return scrambled(k);
+    }
+}
+
+/* Kinds of traces: the pattern's kind throughout, the pattern time after time, the pattern's kind with some samples moved, noise. */
+enum { THROUGHOUT, REPEATED, BROKEN, NOISE, TRACES };
+
+static const char *const traces[TRACES] = {"on and on", "repeated", "broken", "noise"};
+
+static int32_t trace_sample(int trace, int kind, size_t m, size_t k)
+{
+    switch (trace) {
+    case THROUGHOUT: return sample(kind, k);
+    case REPEATED: return sample(kind, k % m);
+    case BROKEN: return k % 149 == 148 ? scrambled(k) : sample(kind, k);
+    default: return scrambled(k + TENSION_TRACE_LIMIT);
+    }
+}
+
+static void put_sample(int buffer, size_t k, int32_t value)
+{
+    uint32_t bits = (uint32_t)value;
+    int b;
+    for (b = 0; b < 4; b++)
+        buffers[buffer][4 * k + b] = (uint8_t)(bits >> 8 * b);
+}
+
+static void put_entry(int table, size_t k, unsigned value)
+{
+    buffers[table][2 * k] = (uint8_t)value;
+    buffers[table][2 * k + 1] = (uint8_t)(value >> 8);
+}
+
+static unsigned entry(int table, size_t k)
+{
+    return buffers[table][2 * k] | (unsigned)buffers[table][2 * k + 1] << 8;
+}
+
+/* Lengths that fit: a pattern of m samples and a trace of n, with every list as long as it can be. */
+static void fit(size_t m, size_t n)
+{
+    int b;
+    bytes[PATTERN] = 4 * m;
+    for (b = LOW; b <= WITNESS_J; b++)
+        bytes[b] = 2 * TENSION_PATTERN_LIMIT;
+    bytes[TRACE] = 4 * n;
+    bytes[SURVIVORS] = bytes[POSITIONS] = 4 * TENSION_TRACE_LIMIT;
+    bytes[COUNTS] = 4 * TENSION_COUNTS;
+}
+
+/* Whether the search in large arrays is tried on a trace of n samples too: on some, since it takes the same arrays for all. */
+static int also_large(size_t n)
+{
+    return n % 256 == 0;
+}
+
+/* Searches with the pattern's own tables. */
+static void own_searches(int kind, size_t m, int trace, size_t n)
+{
+    static const char *const format = "%s pattern of %zu, trace of %zu, %s";
+    int group = n <= 256 ? BRIEF : n <= 2048 ? SMALL : LONG;
+
+    fit(m, n);
+    measure(group, search, TENSION_ACCEPTED, format, kinds[kind], m, n, traces[trace]);
+    if (also_large(n))
+        measure(LARGE, search_large, TENSION_ACCEPTED, format, kinds[kind], m, n, traces[trace]);
+}
+
+/*
+ * Searches with a foreign entry in each table, at its start or its end: none where a place was named and one where none was, or
+ * another place. Foreign neighbours have the pattern prepared again inside, foreign witnesses have not.
+ */
+static void foreign_searches(int kind, size_t m, size_t n)
+{
+    static const char *const tables[BUFFERS] = {[LOW] = "low", [HIGH] = "high", [WITNESS_I] = "witness i", [WITNESS_J] = "witness j"};
+    static const char *const format = "%s pattern of %zu, trace of %zu, %s %zu is %u";
+    int group = n <= 256 ? BRIEF_FOREIGN : n <= 2048 ? SMALL_FOREIGN : LONG_FOREIGN, table, way;
+
+    fit(m, n);
+    for (table = LOW; table <= WITNESS_J; table++)
+        for (way = 0; way < 4; way++) {
+            size_t at = way & 1 ? m - 1 : 0;
+            unsigned own = entry(table, at), other = way & 2 ? own ^ 1 : own == TENSION_NONE ? 0 : TENSION_NONE;
+            uint64_t must = refusal(TENSION_FOREIGN_ENTRY, at);
+
+            put_entry(table, at, other);
+            measure(group, search, must, format, kinds[kind], m, n, tables[table], at, other);
+            if (also_large(n))
+                measure(LARGE, search_large, must, format, kinds[kind], m, n, tables[table], at, other);
+            put_entry(table, at, own);
+        }
+}
+
+/* A call that fits but for the length of one buffer, and so is refused. */
+static void refuse(void (*what)(void), size_t m, size_t n, int buffer, size_t length, uint32_t number, size_t place)
+{
+    int group = PREPARE_REFUSED;
+
+    fit(m, n);
+    bytes[buffer] = length;
+    if (what == search)
+        group = bytes[TRACE] / 4 <= 2048 ? SMALL_REFUSED : LONG_REFUSED;
+    if (what == search_large)
+        group = LARGE_REFUSED;
+    measure(group, what, refusal(number, place), "pattern of %zu, trace of %zu, refusal %u", bytes[PATTERN] / 4, bytes[TRACE] / 4,
+            number);
+}
+
+static void refusals(void (*what)(void), size_t m, size_t n)
+{
+    size_t windows = n < m ? 0 : n - m + 1;
+    int table;
+
+    refuse(what, m, n, PATTERN, 3, TENSION_EMPTY_PATTERN, 0);
+    refuse(what, m, n, PATTERN, 4 * (TENSION_PATTERN_LIMIT + 1), TENSION_LONG_PATTERN, TENSION_PATTERN_LIMIT + 1);
+    for (table = LOW; table <= WITNESS_J; table++)
+        refuse(what, m, n, table, 2 * m - 1, TENSION_SHORT_TABLE, (size_t)(table - LOW + 1));
+    if (what == prepare)
+        return;
+    refuse(what, m, n, TRACE, 4 * (TENSION_TRACE_LIMIT + 1), TENSION_LONG_TRACE, TENSION_TRACE_LIMIT + 1);
+    if (windows == 0)
+        return;
+    refuse(what, m, n, SURVIVORS, 4 * windows - 1, TENSION_SHORT_SURVIVORS, windows);
+    refuse(what, m, n, POSITIONS, 4 * windows - 1, TENSION_SHORT_POSITIONS, windows);
+}
+
+/* Says of a group what is wrong with it. */
+static int wrong(int group, const char *what, const struct seen *seen, size_t limit)
+{
+    printf("%s: %s: %zu, limit %zu (%s)\n", groups[group].what, what, seen->bytes, limit, seen->at);
+    return 0;
+}
+
+/* Prints the line of a group, and whether it keeps to its limits. */
+static int within(int g)
+{
+    const struct group *group = &groups[g];
+    int good = 1;
+
+    printf("%s: %zu bytes of stack (%s), limit %zu; written %zu to %zu", group->what, most[g].bytes, most[g].at, group->limit,
+           emptiest[g].bytes, fullest[g].bytes);
+    if (group->written != 0)
+        printf(", limit %zu", group->written);
+    printf("\n");
+    if (most[g].bytes > group->limit)
+        good = wrong(g, "TOO MANY BYTES OF STACK", &most[g], group->limit);
+    if (group->written != 0 && fullest[g].bytes > group->written)
+        good = wrong(g, "TOO MANY BYTES WRITTEN", &fullest[g], group->written);
+    if (emptiest[g].bytes <= group->above)
+        good = wrong(g, "NO MORE BYTES WRITTEN THAN IN SMALLER ARRAYS", &emptiest[g], group->above);
+    return good;
 }
 
 int main(void)
 {
-    size_t thread = used(nothing);
-    int good = within("tension_prepare, 1,024 samples:", used(prepare) - thread, 64 << 10);
-    samples = 2048;
-    good &= within("tension_search, trace of 2,048:", used(search) - thread, 64 << 10);
-    samples = TENSION_TRACE_LIMIT;
-    good &= within("tension_search, trace of 65,536:", used(search) - thread, 1 << 20);
+    static const size_t patterns[] = {1, 4, 100, TENSION_PATTERN_LIMIT};
+    static const size_t lengths[] = {0, 1, 255, 256, 257, 2047, 2048, 2049, 65535, TENSION_TRACE_LIMIT};
+    enum { PATTERNS = sizeof patterns / sizeof *patterns, LENGTHS = sizeof lengths / sizeof *lengths };
+    int kind, p, l, trace, g, good = 1;
+    size_t k, m;
+
+    for (kind = 0; kind < KINDS; kind++)
+        for (p = 0; p < PATTERNS; p++) {
+            m = patterns[p];
+            for (k = 0; k < m; k++)
+                put_sample(PATTERN, k, sample(kind, k));
+            fit(m, 0);
+            measure(PREPARED, prepare, TENSION_ACCEPTED, "%s pattern of %zu", kinds[kind], m);
+            for (trace = 0; trace < TRACES; trace++) {
+                for (k = 0; k < TENSION_TRACE_LIMIT; k++)
+                    put_sample(TRACE, k, trace_sample(trace, kind, m, k));
+                for (l = 0; l < LENGTHS; l++)
+                    own_searches(kind, m, trace, lengths[l]);
+            }
+            for (l = 0; l < LENGTHS; l++)
+                foreign_searches(kind, m, lengths[l]);
+        }
+    for (p = 0; p < PATTERNS; p++)
+        for (l = 0; l < LENGTHS; l++) {
+            refusals(prepare, patterns[p], lengths[l]);
+            refusals(search, patterns[p], lengths[l]);
+            refusals(search_large, patterns[p], lengths[l]);
+        }
+    for (g = 0; g < GROUPS; g++)
+        good &= within(g);
     return good ? 0 : 1;
 }

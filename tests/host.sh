@@ -18,7 +18,8 @@ echo "host: the header compiles as C89 with stdint.h, C11 and C++"
 
 "${cc[@]}" -std=c99 -O2 -Wall -Wextra -Ihost host/example.c "$archive" -o "$work/example"
 "${cc[@]}" -std=c99 -O2 -Wall -Wextra -Ihost host/replay.c "$archive" -o "$work/replay"
-"${cc[@]}" -std=c11 -O2 -Wall -Wextra -Ihost host/stack.c "$archive" -lpthread -o "$work/stack"
+# static, so that what the loader takes at a first call is not measured with it
+"${cc[@]}" -static -std=c11 -O2 -Wall -Wextra -Ihost host/stack.c "$archive" -o "$work/stack"
 
 echo 4 9 6 6 | reference/krec >"$work/pattern"
 echo 5 8 6 6 9 7 7 2 4 3 3 | reference/krec >"$work/trace"

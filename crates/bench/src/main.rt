@@ -1,9 +1,9 @@
-// The program `bench`: standard input is a pattern recording followed by a trace recording, and standard output is the report of a
-// search for the one in the other.
+// The program `bench`: it is given two recordings on standard input, the pattern's first, and writes the report of a search for the one
+// in the other.
 //
 // Follows docs/RULES.md, "The program". Input is read to its end, or one byte past the longest that is accepted, so that a longer one
-// is seen to be too long; short reads are gone on with. Every byte of the text is proved in the crate `report`; what the C library
-// reads and writes is assumed. Takes what a report takes, and 40 KB of stack.
+// is seen to be too long; short reads are gone on with, and a read that fails counts as the end. Every byte of the text is proved in
+// the crate `report`; what the C library reads and writes is assumed. Takes what a report takes, and 40 KB of stack.
 
 use libc::STDIN_FILENO;
 use libc::STDOUT_FILENO;

@@ -27,7 +27,7 @@ less-cases true false f = refl
 less-cases false true f = refl
 less-cases false false f = clash (f refl) refl
 
-less-told : (a b : ℤ) → ltZ a b ≡ alike (rel a b) Less
+pub less-told : (a b : ℤ) → ltZ a b ≡ alike (rel a b) Less
 unfolding rel
 less-told a b = ltZ-not-leZ a b ∙ less-cases (leZ a b) (leZ b a) (leZ-total a b)
 
@@ -36,7 +36,7 @@ greater-cases true true = refl
 greater-cases true false = refl
 greater-cases false s = refl
 
-greater-told : (a b : ℤ) → ltZ b a ≡ alike (rel a b) Greater
+pub greater-told : (a b : ℤ) → ltZ b a ≡ alike (rel a b) Greater
 unfolding rel
 greater-told a b = ltZ-not-leZ b a ∙ greater-cases (leZ a b) (leZ b a)
 
@@ -65,7 +65,7 @@ unfolding rel
 same-equal a = rw (leZ-refl a) refl
 
 -- two samples are equal exactly if their bits are
-equal-told : (a b : ℤ) → SFits w32 a → SFits w32 b → eqb (ofZ w32 a) (ofZ w32 b) ≡ alike (rel a b) Equal
+pub equal-told : (a b : ℤ) → SFits w32 a → SFits w32 b → eqb (ofZ w32 a) (ofZ w32 b) ≡ alike (rel a b) Equal
 equal-told a b fa fb = go (eqb (ofZ w32 a) (ofZ w32 b)) refl
   where
     go : (t : Bool) → eqb (ofZ w32 a) (ofZ w32 b) ≡ t → t ≡ alike (rel a b) Equal

@@ -10,6 +10,7 @@ use borrow.Author.Tests.{eq-eqb, ne-eqb, lt-ltb, le-ltb}
 use Rattle.order.specs.declared.relation.Relation.the-variants.{Less, Equal, Greater}
 use Rattle.order.specs.declared.steps.Tested.{Tested}
 use Rattle.order.specs.declared.steps.Tested.the-variants.{Passed, Failed}
+use Rattle.order.specs.Sizes.{asPlace}
 use Rattle.order.specs.EntryTest.{told, underHigh, testBy}
 
 module _ (v : List ℤ) (high j c : ℕ) where
@@ -18,7 +19,7 @@ module _ (v : List ℤ) (high j c : ℕ) where
   no-high h = rw (le-ltb high (length v) h) refl
 
   pub high-told : {b t : Bool} → high < length v → b ≡ told v j high Less → b ≡ t →
-      cond t (Passed (c + 1)) (Failed (c + 1) high) ≡ underHigh v high j c
+      cond t (Passed (c + 1)) (Failed (c + 1) (asPlace high)) ≡ underHigh v high j c
   unfolding underHigh
   high-told {b} {t} h e q = let s : told v j high Less ≡ t = sym e ∙ q in rw (lt-ltb high (length v) h, s) refl
 
@@ -32,7 +33,7 @@ module _ (v : List ℤ) (low high j : ℕ) where
   no-low h l e = e ∙ rw (lt-ltb j (length v) h, le-ltb low (length v) l) refl
 
   pub one-told : {b t : Bool} → j < length v → low < length v → low ≡ high → b ≡ told v j low Equal → b ≡ t →
-      cond t (Passed 1) (Failed 1 low) ≡ testBy v low high j
+      cond t (Passed 1) (Failed 1 (asPlace low)) ≡ testBy v low high j
   unfolding testBy
   one-told {b} {t} h l s e q =
       let g : told v j low Equal ≡ t = sym e ∙ q in
@@ -46,7 +47,7 @@ module _ (v : List ℤ) (low high j : ℕ) where
       u ∙ rw (lt-ltb j (length v) h, lt-ltb low (length v) l, ne-eqb low high s, g) refl
 
   pub low-failed : {b : Bool} → j < length v → low < length v → (low ≡ high → ⊥) → b ≡ told v j low Greater → b ≡ false →
-      Failed 1 low ≡ testBy v low high j
+      Failed 1 (asPlace low) ≡ testBy v low high j
   unfolding testBy
   low-failed h l s e q =
       let g : told v j low Greater ≡ false = sym e ∙ q in

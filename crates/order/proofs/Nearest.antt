@@ -1,6 +1,6 @@
 -- Shows: `nearest` finds, of the earlier places on one side of place j's value, the one with the nearest value, the rightmost
--- of equals, and none exactly if there is no such place; so `lowOf` and `highOf` are the neighbours of the rules. An earlier
--- equal value makes both the same place. One proof serves both sides.
+-- of equals, and none exactly if there is no such place; so `lowOf` and `highOf` are the neighbours of the rules. Where an earlier
+-- value is equal the two are one place. One proof serves both sides.
 -- Assumes nothing beyond what the section names: a total, transitive test.
 use Prim.Native.Nat.{ℕ, zero, suc, _<_, _≤_}
 use mathlib.Core.Path.{_≡_, refl, ap}
@@ -44,7 +44,7 @@ Neighbour le P j n none = (i : ℕ) → i < n → le (at P i) (at P j) ≡ false
 Neighbour le P j n (place k) = Near le P j n k
 
 module _ {le : ℤ → ℤ → Bool} (o : Ordering le) (P : List ℤ) (j : ℕ) where
-  le-refl : (a : ℤ) → le a a ≡ true
+  pub le-refl : (a : ℤ) → le a a ≡ true
   le-refl a = go (le a a) refl
     where
       go : (t : Bool) → le a a ≡ t → le a a ≡ true
@@ -110,7 +110,7 @@ pub high-is : (P : List ℤ) (j : ℕ) → Neighbour (flipped leZ) P j j (highOf
 unfolding highOf
 high-is P j = nearest-is (turned upward) P j j
 
--- an earlier equal value makes both the same place
+-- where an earlier value is equal the two are one place
 same-spot : (P : List ℤ) (j i : ℕ) → i < j → leZ (at P i) (at P j) ≡ true → leZ (at P j) (at P i) ≡ true
     → (low high : Spot) → Neighbour leZ P j j low → Neighbour (flipped leZ) P j j high → low ≡ high
 same-spot P j i h p q none high f g = clash p (f i h)

@@ -1,4 +1,4 @@
--- Shows: the tests of all places below k pass on v exactly if v's first k values are isomorphic with the pattern's first k;
+-- Shows: a list passes the tests of all places below k exactly if it stands in the pattern's order as far as that;
 -- a test costs at most 2 comparisons, and place 0's costs none; a test that fails does so at an earlier place, which
 -- compares differently; and a test's outcome depends only on how v compares there.
 -- Assumes nothing.
@@ -14,7 +14,7 @@ use lib.Signed.{leZ}
 use borrow.Author.Tests.{eqb-true}
 use Rattle.order.specs.declared.steps.Tested.{Tested}
 use Rattle.order.specs.declared.steps.Tested.the-variants.{Passed, Failed}
-use Rattle.order.specs.Sizes.{Spot, none, place, at}
+use Rattle.order.specs.Sizes.{Spot, none, place, asPlace, at}
 use Rattle.order.specs.Relations.{rel}
 use Rattle.order.specs.Isomorphic.{Iso}
 use Rattle.order.specs.Neighbours.{nearest, lowOf, highOf}
@@ -60,7 +60,7 @@ module _ (P v : List ℤ) (j : ℕ) where
       unplace none = 0
       unplace (place n) = n
 
-      go : (t : Bool) → passes (cond t (Passed (c + 1)) (Failed (c + 1) k)) ≡ true → t ≡ true
+      go : (t : Bool) → passes (cond t (Passed (c + 1)) (Failed (c + 1) (asPlace k))) ≡ true → t ≡ true
       go true e = refl
       go false e = e
 
@@ -107,7 +107,7 @@ module _ (P v : List ℤ) (j : ℕ) where
   against-cost c none = omega arith
   against-cost c (place i) = go (matches P v j i)
     where
-      go : (t : Bool) → cost (cond t (Passed (c + 1)) (Failed (c + 1) i)) ≤ c + 1
+      go : (t : Bool) → cost (cond t (Passed (c + 1)) (Failed (c + 1) (asPlace i))) ≤ c + 1
       go true = omega arith
       go false = omega arith
 
@@ -249,7 +249,7 @@ iso-order P v k p e i j hi hj =
     e .order i j (rw (length-take-le k P p) hi) (rw (length-take-le k P p) hj) ∙
     ap₂ leZ (getD-take k v i (pos 0) hi) (getD-take k v j (pos 0) hj)
 
--- the tests of all places below k pass on v exactly if v's first k values are isomorphic with the pattern's first k
+-- a list passes the tests of all places below k exactly if it stands in the pattern's order as far as that
 pub tests-iso : (P v : List ℤ) (k : ℕ) → k ≤ length P → k ≤ length v → AllPass P v k → Iso (take k P) (take k v)
 tests-iso P v k p q f = order-iso P v k p q (passes-order P v k f)
 
@@ -286,14 +286,14 @@ pub record FailsAt (P v : List ℤ) (j i : ℕ) : Type 0 where
 -- what an outcome says of its failure
 abbrev Outcome : List ℤ → List ℤ → ℕ → Tested → Type 0
 Outcome P v j (Passed c) = Unit {0}
-Outcome P v j (Failed c i) = FailsAt P v j i
+Outcome P v j (Failed c i) = FailsAt P v j (i .0)
 
 against-fails : (P v : List ℤ) (j c : ℕ) (s : Spot) → ((i : ℕ) → s ≡ place i → i < j) → Outcome P v j (against P v j c s)
 unfolding against
 against-fails P v j c none f = tt
 against-fails P v j c (place i) f = go (matches P v j i) refl
   where
-    go : (t : Bool) → matches P v j i ≡ t → Outcome P v j (cond t (Passed (c + 1)) (Failed (c + 1) i))
+    go : (t : Bool) → matches P v j i ≡ t → Outcome P v j (cond t (Passed (c + 1)) (Failed (c + 1) (asPlace i)))
     go true e = tt
     go false e = record { earlier = f i refl; differs = λ d. clash (matches-alike P v j i d) e }
 
@@ -314,7 +314,7 @@ test-fails P v j =
 failed : (P v : List ℤ) (j : ℕ) (r : Tested) → Outcome P v j r → passes r ≡ false → (i : ℕ) × (failedAt r ≡ place i) × FailsAt P v j i
 unfolding passes failedAt
 failed P v j (Passed c) o e = clash refl e
-failed P v j (Failed c i) o e = (i, refl, o)
+failed P v j (Failed c i) o e = (i .0, refl, o)
 
 pub fails-at : (P v : List ℤ) (j : ℕ) → passes (testOf P v j) ≡ false → (i : ℕ) × (failedAt (testOf P v j) ≡ place i) × FailsAt P v j i
 fails-at P v j e = failed P v j (testOf P v j) (test-fails P v j) e

@@ -14,7 +14,7 @@ use borrow.Author.Tests.{eq-eqb, ne-eqb, eqb-true, eqb-false, lt-ltb, le-ltb}
 use Rattle.order.specs.declared.relation.Relation.{Relation}
 use Rattle.order.specs.declared.relation.Relation.the-variants.{Less, Equal, Greater}
 use Rattle.order.specs.declared.steps.Tested.the-variants.{Passed, Failed}
-use Rattle.order.specs.Sizes.{Spot, none, place, at, entry, noPlace}
+use Rattle.order.specs.Sizes.{Spot, none, place, asPlace, at, entry, noPlace}
 use Rattle.order.specs.Relations.{rel, alike}
 use Rattle.order.specs.Neighbours.{lowOf, highOf}
 use Rattle.order.specs.PlaceTest.{matches, sameSpot, against, thenHigh, testOf}
@@ -51,7 +51,7 @@ module _ (P : List ℤ) (j i : ℕ) where
 module _ (P v : List ℤ) (j : ℕ) where
   -- one comparison, of a relation that is known
   against-known : (c i : ℕ) (r : Relation) (t : Bool) → rel (at P j) (at P i) ≡ r → alike (rel (at v j) (at v i)) r ≡ t →
-      against P v j c (place i) ≡ cond t (Passed (c + 1)) (Failed (c + 1) i)
+      against P v j c (place i) ≡ cond t (Passed (c + 1)) (Failed (c + 1) (asPlace i))
   unfolding against matches
   against-known c i r t e h = rw (e, h) refl
 
@@ -65,24 +65,24 @@ module _ (P v : List ℤ) (j : ℕ) where
   no-neighbour l h = test-as none none l h
 
   one-neighbour : (i : ℕ) (t : Bool) → lowOf P j ≡ place i → highOf P j ≡ place i → alike (rel (at v j) (at v i)) Equal ≡ t →
-      testOf P v j ≡ cond t (Passed 1) (Failed 1 i)
+      testOf P v j ≡ cond t (Passed 1) (Failed 1 (asPlace i))
   unfolding thenHigh sameSpot
   one-neighbour i t l h e =
       test-as (place i) (place i) l h ∙
       ap (thenHigh P v j (place i) (place i)) (against-known 0 i Equal t (both-equal P j i l h) e) ∙ end t
     where
-      end : (t : Bool) → thenHigh P v j (place i) (place i) (cond t (Passed 1) (Failed 1 i)) ≡ cond t (Passed 1) (Failed 1 i)
+      end : (t : Bool) → thenHigh P v j (place i) (place i) (cond t (Passed 1) (Failed 1 (asPlace i))) ≡ cond t (Passed 1) (Failed 1 (asPlace i))
       end true = rw (eq-eqb i i refl) refl
       end false = refl
 
   only-high : (i : ℕ) (t : Bool) → lowOf P j ≡ none → highOf P j ≡ place i → alike (rel (at v j) (at v i)) Less ≡ t →
-      testOf P v j ≡ cond t (Passed 1) (Failed 1 i)
+      testOf P v j ≡ cond t (Passed 1) (Failed 1 (asPlace i))
   unfolding thenHigh sameSpot against
   only-high i t l h e =
       test-as none (place i) l h ∙ against-known 0 i Less t (below-high P j i h (λ q. let z : _≡_ {A = ℕ} 0 1 = cc in omega arith)) e
 
   low-fails : (i : ℕ) (high : Spot) → lowOf P j ≡ place i → highOf P j ≡ high → (place i ≡ high → ⊥) → alike (rel (at v j) (at v i)) Greater ≡ false →
-      testOf P v j ≡ Failed 1 i
+      testOf P v j ≡ Failed 1 (asPlace i)
   unfolding thenHigh
   low-fails i high l h f e =
       test-as (place i) high l h ∙
@@ -100,7 +100,7 @@ module _ (P v : List ℤ) (j : ℕ) where
 
   both : (i k : ℕ) (t : Bool) → lowOf P j ≡ place i → highOf P j ≡ place k → (i ≡ k → ⊥) →
       alike (rel (at v j) (at v i)) Greater ≡ true → alike (rel (at v j) (at v k)) Less ≡ t →
-      testOf P v j ≡ cond t (Passed 2) (Failed 2 k)
+      testOf P v j ≡ cond t (Passed 2) (Failed 2 (asPlace k))
   unfolding thenHigh sameSpot
   both i k t l h f e g =
       test-as (place i) (place k) l h ∙
@@ -136,7 +136,7 @@ module _ (P v : List ℤ) (j : ℕ) (inside : j < length v) (short : length v �
       let apart : i ≡ noPlace → ⊥ = λ q. omega arith in
       rw (lt-ltb j (length v) inside, within e, ne-eqb i noPlace apart, no-such) (go (told v j i Greater) refl)
     where
-      go : (t : Bool) → told v j i Greater ≡ t → cond t (Passed 1) (Failed 1 i) ≡ testOf P v j
+      go : (t : Bool) → told v j i Greater ≡ t → cond t (Passed 1) (Failed 1 (asPlace i)) ≡ testOf P v j
       go true e = sym (only-low P v j i l h e)
       go false e = sym (low-fails P v j i none l h (λ q. let z : _≡_ {A = ℕ} 0 1 = cc in omega arith) e)
   by-spots (place i) (place k) l h =
@@ -145,12 +145,14 @@ module _ (P v : List ℤ) (j : ℕ) (inside : j < length v) (short : length v �
       unplace : place i ≡ place k → i ≡ k
       unplace w = cc
 
-      both-there : (i ≡ k → ⊥) → (t : Bool) → told v j i Greater ≡ t → cond t (cond (told v j k Less) (Passed 2) (Failed 2 k)) (Failed 1 i) ≡ testOf P v j
+      both-there : (i ≡ k → ⊥) → (t : Bool) → told v j i Greater ≡ t →
+          cond t (cond (told v j k Less) (Passed 2) (Failed 2 (asPlace k))) (Failed 1 (asPlace i)) ≡ testOf P v j
       both-there f true e = sym (both P v j i k (told v j k Less) l h f e refl)
       both-there f false e = sym (low-fails P v j i (place k) l h (λ q. f (unplace q)) e)
 
       go : (t : Bool) → eqb i k ≡ t →
-          cond t (cond (told v j i Equal) (Passed 1) (Failed 1 i)) (cond (told v j i Greater) (cond (told v j k Less) (Passed 2) (Failed 2 k)) (Failed 1 i)) ≡ testOf P v j
+          cond t (cond (told v j i Equal) (Passed 1) (Failed 1 (asPlace i)))
+          (cond (told v j i Greater) (cond (told v j k Less) (Passed 2) (Failed 2 (asPlace k))) (Failed 1 (asPlace i))) ≡ testOf P v j
       go true e = sym (one-neighbour P v j i (told v j i Equal) l (h ∙ ap place (sym (eqb-true i k e))) refl)
       go false e = both-there (eqb-false i k e) (told v j i Greater) refl
 

@@ -1,5 +1,5 @@
 -- Shows: the demands on every search, of the definitions: the list is exactly the windows isomorphic with the pattern, no such
--- window is struck, any two survivors agree, D + S ≤ N, W ≤ 2(n + S).
+-- window is struck, survivors agree with each other, and the bounds on D + S and on W.
 -- Assumes nothing.
 use Prim.Native.Nat.{ℕ, zero, suc, _<_}
 use mathlib.Core.Path.{_≡_, refl, sym, _∙_, ap, subst}

@@ -1,5 +1,5 @@
--- "Duels": windows arrive in order, kept windows form a stack, and an arriving window duels with the top until the two
--- agree or it falls.
+-- "Duels": the windows come one after the other onto a stack. Each duels with the one on top, as long as it stands and the two do
+-- not agree.
 use Prim.Native.Nat.{ℕ, _+_, _-_}
 use mathlib.Core.List.{List, [], _∷_, reverse}
 use mathlib.Core.Bool.{Bool, true, false, cond}

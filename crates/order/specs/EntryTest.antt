@@ -10,7 +10,7 @@ use Rattle.order.specs.declared.relation.Relation.{Relation}
 use Rattle.order.specs.declared.relation.Relation.the-variants.{Less, Equal, Greater}
 use Rattle.order.specs.declared.steps.Tested.{Tested}
 use Rattle.order.specs.declared.steps.Tested.the-variants.{Passed, Failed}
-use Rattle.order.specs.Sizes.{at}
+use Rattle.order.specs.Sizes.{asPlace, at}
 use Rattle.order.specs.Relations.{rel, alike}
 
 -- whether v[j] against v[i] compares as r
@@ -19,7 +19,7 @@ told v j i r = alike (rel (at v j) (at v i)) r
 
 -- whether v[j] is less than its high neighbour, after c comparisons were spent
 unfoldable pub underHigh : List ℤ → ℕ → ℕ → ℕ → Tested
-underHigh v high j c = cond (ltb high (length v)) (cond (told v j high Less) (Passed (c + 1)) (Failed (c + 1) high)) (Passed c)
+underHigh v high j c = cond (ltb high (length v)) (cond (told v j high Less) (Passed (c + 1)) (Failed (c + 1) (asPlace high))) (Passed c)
 
 -- low first, then high; one comparison, for equality, where the two are one place
 unfoldable pub testBy : List ℤ → ℕ → ℕ → ℕ → Tested
@@ -27,7 +27,7 @@ testBy v low high j =
     cond (ltb j (length v))
     (cond (ltb low (length v))
     (cond (eqb low high)
-    (cond (told v j low Equal) (Passed 1) (Failed 1 low))
-    (cond (told v j low Greater) (underHigh v high j 1) (Failed 1 low)))
+    (cond (told v j low Equal) (Passed 1) (Failed 1 (asPlace low)))
+    (cond (told v j low Greater) (underHigh v high j 1) (Failed 1 (asPlace low))))
     (underHigh v high j 0))
     (Passed 0)

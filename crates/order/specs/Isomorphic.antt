@@ -10,7 +10,7 @@ use lib.ListN.{length}
 use lib.Signed.{leZ}
 use Rattle.order.specs.Sizes.{at}
 
--- u_i ≤ u_j exactly if v_i ≤ v_j, for all places i and j
+-- of any two places, the first's sample is at most the second's in u exactly if it is so in v
 pub record Iso (u v : List ℤ) : Type 0 where
   pub lengths : length u ≡ length v
   pub order : (i j : ℕ) → i < length u → j < length u → leZ (at u i) (at u j) ≡ leZ (at v i) (at v j)

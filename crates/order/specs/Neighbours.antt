@@ -7,7 +7,7 @@ use lib.ListN.{length}
 use lib.Signed.{leZ}
 use Rattle.order.specs.Sizes.{Spot, none, place, at, each, entry}
 
--- of the nearest so far and a further place i on the right side of j, the nearer; of equals the rightmost
+-- of the nearest so far and a further place i on that side of j, the one whose value is nearer; the later one where they are equal
 unfoldable pub nearer : (ℤ → ℤ → Bool) → List ℤ → ℕ → Spot → Spot
 nearer le P i none = place i
 nearer le P i (place k) = cond (le (at P k) (at P i)) (place i) (place k)
@@ -17,11 +17,11 @@ unfoldable pub nearest : (ℤ → ℤ → Bool) → List ℤ → ℕ → ℕ →
 nearest le P j zero = none
 nearest le P j (suc i) = cond (le (at P i) (at P j)) (nearer le P i (nearest le P j i)) (nearest le P j i)
 
--- the place i < j with the largest P[i] ≤ P[j]
+-- of the places before j whose value is at most place j's, the one with the greatest
 unfoldable pub lowOf : List ℤ → ℕ → Spot
 lowOf P j = nearest leZ P j j
 
--- the place i < j with the smallest P[i] ≥ P[j]
+-- of those whose value is at least place j's, the one with the least
 unfoldable pub highOf : List ℤ → ℕ → Spot
 highOf P j = nearest (λ a b. leZ b a) P j j
 

@@ -7,7 +7,7 @@ use lib.Dec.{eqb}
 use lib.IntN.{ℤ}
 use Rattle.order.specs.declared.steps.Tested.{Tested}
 use Rattle.order.specs.declared.steps.Tested.the-variants.{Passed, Failed}
-use Rattle.order.specs.Sizes.{Spot, none, place, at}
+use Rattle.order.specs.Sizes.{Spot, none, place, asPlace, at}
 use Rattle.order.specs.Relations.{rel, alike}
 use Rattle.order.specs.Neighbours.{lowOf, highOf}
 
@@ -21,10 +21,10 @@ sameSpot none (place j) = false
 sameSpot (place i) none = false
 sameSpot (place i) (place j) = eqb i j
 
--- one neighbour's comparison, after c were spent; a missing neighbour costs nothing and passes
+-- one neighbour's comparison, after c were spent; where there is no such neighbour there is nothing to compare, and the test goes on
 unfoldable pub against : List ℤ → List ℤ → ℕ → ℕ → Spot → Tested
 against P v j c none = Passed c
-against P v j c (place i) = cond (matches P v j i) (Passed (c + 1)) (Failed (c + 1) i)
+against P v j c (place i) = cond (matches P v j i) (Passed (c + 1)) (Failed (c + 1) (asPlace i))
 
 -- the high neighbour's comparison, where the low one's passed and the two differ
 unfoldable pub thenHigh : List ℤ → List ℤ → ℕ → Spot → Spot → Tested → Tested
@@ -46,4 +46,4 @@ cost (Failed c i) = c
 
 unfoldable pub failedAt : Tested → Spot
 failedAt (Passed c) = none
-failedAt (Failed c i) = place i
+failedAt (Failed c i) = place (i .0)

@@ -1,4 +1,4 @@
--- "Relation": two samples compare as less, equal or greater.
+-- "Relation": how one sample compares with another, which has three outcomes.
 use mathlib.Core.Bool.{Bool, true, false, cond}
 use lib.IntN.{ℤ}
 use lib.Signed.{leZ}

@@ -5,6 +5,7 @@ use mathlib.Core.Bool.{Bool, cond}
 use lib.Dec.{leb}
 use lib.IntN.{ℤ, pos}
 use lib.ListN.{getD, take, drop}
+use Rattle.order.specs.declared.kinds.Place.{Place}
 
 -- the longest pattern and the longest trace
 abbrev pub patternLimit : ℕ
@@ -19,6 +20,10 @@ noPlace = 65535
 
 abbrev pub unused : ℕ
 unused = 4294967295
+
+-- the place of a number, as the code's own type for places has it
+abbrev pub asPlace : ℕ → Place
+asPlace i = record { 0 = i }
 
 -- a place of a list, or none
 pub data Spot : Type 0 where

@@ -1,4 +1,4 @@
--- "Sweep": the survivors are tested place by place, in ascending order and never twice at one sample of the trace.
+-- "Sweep": the survivors are tested place by place, the earliest first, and none at a sample of the trace that one before it has passed.
 use Prim.Native.Nat.{ℕ, zero, suc, _+_, _-_, max}
 use mathlib.Core.List.{List, [], _∷_, _++_}
 use lib.IntN.{ℤ}
@@ -29,7 +29,7 @@ unfoldable pub onFail : Weight
 onFail (Passed c) = 0
 onFail (Failed c i) = 1
 
--- after a test of window x: a pass goes on, one sample further, and a failure ends x and leaves E
+-- what follows a test of window x: after a pass the next sample's, and a failure is the end of x, with E where it was
 unfoldable pub onTest : Tested → ℕ → ℕ → List ℕ → Swept → Swept
 onTest (Passed c) e w l next = next
 onTest (Failed c i) e w l next = swept e w l
@@ -41,7 +41,7 @@ tests weigh test x (suc n) e w l =
     onTest (test x (e - x)) e (w + weigh (test x (e - x))) l
     (tests weigh test x n (e + 1) (w + weigh (test x (e - x))) l)
 
--- survivor x: E becomes the larger of E and x
+-- survivor x, from its start or from E, whichever is further on
 unfoldable pub sweepOne : Weight → (ℕ → ℕ → Tested) → ℕ → ℕ → Swept → Swept
 sweepOne weigh test m x s =
     tests weigh test x (x + m - max (s .reach) x) (max (s .reach) x) (s .total) (s .listed)

@@ -16,7 +16,7 @@ unfoldable pub neighbourAt : List ℤ → List ℤ → Spot → Spot
 neighbourAt P v none = none
 neighbourAt P v (place j) = failedAt (testOf P v j)
 
--- the witness (i, j) at offset a: j the first failing place, i the neighbour that failed; both none where no place fails
+-- the witness (i, j) at offset a: the place that fails first is j, and i is its neighbour there; where all pass, both are none
 unfoldable pub witnessJ : List ℤ → ℕ → Spot
 witnessJ P a = firstFail P (drop a P) (length P - a)
 

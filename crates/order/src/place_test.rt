@@ -49,7 +49,7 @@ fn under_high(high: u16, v: &[i32], j: usize, spent: u32) -> Tested
     if less_there(v, j, above) {
         return Tested::Passed(spent + 1);
     }
-    Tested::Failed(spent + 1, above)
+    Tested::Failed(spent + 1, Place(above))
 }
 
 // The test of place j of a list by the entries of that place's neighbours.
@@ -68,10 +68,10 @@ pub fn test_place(low: u16, high: u16, v: &[i32], j: Place) -> Tested
         if equal_there(v, here, below) {
             return Tested::Passed(1);
         }
-        return Tested::Failed(1, below);
+        return Tested::Failed(1, Place(below));
     }
     if greater_there(v, here, below) {
         return under_high(high, v, here, 1);
     }
-    Tested::Failed(1, below)
+    Tested::Failed(1, Place(below))
 }

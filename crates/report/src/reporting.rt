@@ -1,4 +1,4 @@
-// The program's core: the trace is read from the end of the input, the pattern from the bytes before it, the pattern is prepared and
+// The program's core: the input's last recording is the trace, the one that ends where it begins the pattern; the pattern is prepared and
 // the trace searched. The first refusal on the way becomes the line; otherwise the counts and the positions are the text.
 //
 // Follows docs/RULES.md, "The program". Takes the time of the four calls, and about 70 KB of stack: the samples, tables and buffers

@@ -2,8 +2,10 @@
 pub mod SearchVerdicts
 pub mod MeetingByTable
 pub mod CodeLaws
+pub mod SteadyLaws
 pub mod StackLaws
 pub mod SweepSteps
+pub mod Climbing
 pub mod RunLaws
 pub mod FilledUp
 pub mod WrittenOut

@@ -86,6 +86,7 @@ search-ready P low high wi wj T s p f =
     let c = room-passed (length P) (length T) s p _ (b .4) in
     let o = own-passed (lowest (foreignAt P low high wi wj) (length P)) (c .3) in
     record {
+      some = a .0;
       number = v .1;
       neighbours = record { limit = a .1; low-room = b .0; high-room = b .1; low-own = low-own P low high wi wj o; high-own = high-own P low high wi wj o };
       witnesses = record { limit = a .1; i-long = b .2; j-long = b .3; i-own = i-own P low high wi wj o; j-own = j-own P low high wi wj o };

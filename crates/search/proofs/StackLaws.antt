@@ -20,7 +20,8 @@ use Rattle.order.proofs.Lists.{reverse-cons, those-suc, windowsOf-as}
 use Rattle.order.proofs.Dueling.{rules-fair, ended, arrive-append}
 use Rattle.search.specs.declared.duels.Arrival.{Arrival}
 use Rattle.search.specs.declared.duels.Arrival.the-variants.{Pushed, Dropped}
-use Rattle.search.specs.Asked.{SideBySide}
+use Rattle.order.specs.declared.relation.Relation.{Relation}
+use Rattle.search.specs.Courses.{Steady}
 use Rattle.search.specs.Stacks.{top, DuelsOf}
 
 -- ---- a buffer as a stack
@@ -235,7 +236,7 @@ pub record AllKept (P T : List ℤ) (windows : ℕ) (before l : List ℕ) (y : �
 pub none-yet : (P T : List ℤ) (windows : ℕ) (l : List ℕ) → AllKept P T windows l l 0
 none-yet P T windows l = record { standing = at-first P T windows l; last = λ h. absurd (omega arith) }
 
-module _ {P T : List ℤ} {windows : ℕ} {before l : List ℕ} (side : SideBySide P) where
+module _ {P T : List ℤ} {windows : ℕ} {before l : List ℕ} {way : Relation} (side : Steady P way) where
   settle-side : (y : ℕ) → AllKept P T windows before l y → Settled P T l y y 0 y 0 Pushed
   settle-side zero k = settle-empty (looking (k .standing)) refl
   settle-side (suc n) k =

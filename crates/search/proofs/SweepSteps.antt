@@ -9,6 +9,7 @@ use native.Mathlib.Numerals.{add-one}
 use lib.IntN.{ℤ, pos}
 use lib.ListN.{length, getD, take, drop, set, length-set, length-drop, drop-of-length-le}
 use lib.Seq.{drop-cons, take-suc-set, drop-set-lt, getD-take, length-take-le}
+use Rattle.order.specs.declared.kinds.Place.{Place}
 use Rattle.order.specs.declared.steps.Tested.{Tested}
 use Rattle.order.specs.declared.steps.Tested.the-variants.{Passed, Failed}
 use Rattle.order.specs.Sizes.{at}
@@ -49,7 +50,7 @@ module _ (P U : List ℤ) (j : ℕ) where
   unfolding cost
   cheap-pass c q = cheap (Passed c) q
 
-  pub cheap-fail : (c n : ℕ) → testOf P U j ≡ Failed c n → c ≤ 2
+  pub cheap-fail : (c : ℕ) (n : Place) → testOf P U j ≡ Failed c n → c ≤ 2
   unfolding cost
   cheap-fail c n q = cheap (Failed c n) q
 
@@ -91,7 +92,7 @@ module _ {P T : List ℤ} {x from before j w : ℕ} (i : Sweeping P T x from bef
         bound = let b = i .bound in let o = i .onward in let k = cheap-pass P (drop x T) j c q in omega arith;
       }
 
-  pub ended-there : (c n : ℕ) → testOf P (drop x T) j ≡ Failed c n → SweptOne P T x from before (x + j) (w + c) false
+  pub ended-there : (c : ℕ) (n : Place) → testOf P (drop x T) j ≡ Failed c n → SweptOne P T x from before (x + j) (w + c) false
   unfolding onTest cost
   ended-there c n q =
       record {
@@ -125,11 +126,6 @@ module _ (P T : List ℤ) {x from : ℕ} (before : ℕ) (begun : x ≤ from) (la
   last-passed c q =
       let end : x + (length P - 1 + 1) ≡ x + length P = omega arith in
       subst (λ (e : ℕ). SweptOne P T x from before e (before + c) true) end (came-through (passed-on start (omega arith) c q) (omega arith))
-
-  pub last-failed : (c n : ℕ) → testOf P (drop x T) (length P - 1) ≡ Failed c n → SweptOne P T x from before from (before + c) false
-  last-failed c n q =
-      let end : x + (length P - 1) ≡ from = omega arith in
-      subst (λ (e : ℕ). SweptOne P T x from before e (before + c) false) end (ended-there start (omega arith) c n q)
 
 -- ---- all survivors
 
@@ -219,12 +215,13 @@ module _ {P T : List ℤ} {kept : ℕ} {before after : List ℕ} {k reach spent 
             i .state;
       }
 
-pub all-swept : {P T : List ℤ} {kept : ℕ} {before after : List ℕ} {k reach spent found : ℕ} → SweptTo P T kept before after k reach spent found → kept ≤ k → kept ≡ length (survivors P T)
-    → SweepOf P T kept before after spent found
+pub all-swept : {P T : List ℤ} {kept : ℕ} {before after : List ℕ} {k reach spent made found : ℕ} → SweptTo P T kept before after k reach spent found → kept ≤ k → kept ≡ length (survivors P T)
+    → made ≤ 2 * (length T + kept) → SweepOf P T kept before after spent made found
 unfolding sweepAll sweepCost positions
-all-swept {P} {T} {kept} {before} {after} {k} {reach} {spent} {found} i h number =
+all-swept {P} {T} {kept} {before} {after} {k} {reach} {spent} {made} {found} i h number few =
     record {
       cost-is = ap (λ (s : Swept). s .total) done;
+      bound = few;
       listed = ap (λ (s : Swept). s .listed) done;
       few = let f = i .few in let w = i .within in omega arith;
       beyond = i .beyond;
@@ -256,7 +253,7 @@ survivor-inside P T k h =
     let w = windowsOf-as (length P) (length T) in
     omega arith
 
-module _ {P : List ℤ} {low high : List ℕ} {T : List ℤ} {buffer : List ℕ} {kept : ℕ} (rows : Kept P low high T buffer kept) where
+module _ {P T : List ℤ} {buffer : List ℕ} {kept : ℕ} (rows : Kept P T buffer kept) where
   pub rows-number : kept ≡ length (survivors P T)
   rows-number = kept-number P T kept buffer (rows .held) (rows .kept-long)
 

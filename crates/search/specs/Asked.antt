@@ -8,12 +8,13 @@ use Rattle.order.specs.Sizes.{entry, patternLimit, at, traceLimit, windowsOf}
 use Rattle.order.specs.Relations.{rel}
 use Rattle.order.specs.Witnesses.{witnessI, witnessJ}
 use Rattle.order.specs.Written.{over, countsOf, filled}
-use Rattle.order.specs.declared.steps.Meeting.the-variants.{Agree}
-use Rattle.order.specs.Duels.{meets, duels, survivors}
+use Rattle.order.specs.declared.relation.Relation.{Relation}
+use Rattle.order.specs.Duels.{duels, survivors}
 use Rattle.order.specs.Sweeping.{sweepCost, positions}
 use Rattle.order.specs.declared.steps.Counts.{Counts}
 use Rattle.tables.specs.Asked.{OwnNeighbours}
 use Rattle.search.specs.Codes.{Coded}
+use Rattle.search.specs.Courses.{Steady}
 
 -- a duel of window y with the one a before it, by the witness (i, j)
 pub record Duelable (P T : List ℤ) (y a i j : ℕ) : Type 0 where
@@ -31,16 +32,19 @@ pub record OwnWitnesses (P : List ℤ) (wi wj : List ℕ) : Type 0 where
   pub i-own : (a : ℕ) → a < length P → getD wi a 0 ≡ entry (witnessI P a)
   pub j-own : (a : ℕ) → a < length P → getD wj a 0 ≡ entry (witnessJ P a)
 
+-- the first witness table alone
+pub record OwnFirst (P : List ℤ) (wi : List ℕ) : Type 0 where
+  pub some : 0 < length P
+  pub limit : length P ≤ patternLimit
+  pub long : length P ≤ length wi
+  pub own : (a : ℕ) → a < length P → getD wi a 0 ≡ entry (witnessI P a)
+
 -- window x and a later window y of the trace
 pub record Meetable (P : List ℤ) (wi wj codes : List ℕ) (T : List ℤ) (x y : ℕ) : Type 0 where
   pub own : OwnWitnesses P wi wj
   pub coded : Coded P wi wj codes (length P)
   pub later : x < y
   pub inside : y + length P ≤ length T
-
--- each window of any trace agrees with the next
-pub record SideBySide (P : List ℤ) : Type 0 where
-  pub agreeing : (T : List ℤ) (x : ℕ) → meets P T x (x + 1) ≡ Agree
 
 -- all windows, and a buffer with room for them
 pub record Duels (P : List ℤ) (wi wj : List ℕ) (T : List ℤ) (windows : ℕ) (before : List ℕ) : Type 0 where
@@ -58,16 +62,31 @@ pub record Sweepable (P : List ℤ) (low high : List ℕ) (T : List ℤ) (x from
   pub reached : from ≤ length T
   pub small : before ≤ 1000000
 
+-- the same of a steady pattern
+pub record Steadily (P T : List ℤ) (way : Relation) (x from before : ℕ) : Type 0 where
+  pub steady : Steady P way
+  pub trace : length T ≤ traceLimit
+  pub inside : x + length P ≤ length T
+  pub begun : x ≤ from
+  pub reached : from ≤ length T
+  pub small : before ≤ 1000000
+
 -- the survivors, in the first entries of their buffer
-pub record Kept (P : List ℤ) (low high : List ℕ) (T : List ℤ) (buffer : List ℕ) (kept : ℕ) : Type 0 where
-  pub own : OwnNeighbours P low high
+pub record Kept (P T : List ℤ) (buffer : List ℕ) (kept : ℕ) : Type 0 where
   pub trace : length T ≤ traceLimit
   pub held : take kept buffer ≡ survivors P T
   pub kept-long : kept ≤ length buffer
 
--- and a buffer with room for them
+-- a sweep of them by the pattern's own tables, into a buffer with room for all
 pub record Sweeps (P : List ℤ) (low high : List ℕ) (T : List ℤ) (buffer : List ℕ) (kept : ℕ) (before : List ℕ) : Type 0 where
-  pub rows : Kept P low high T buffer kept
+  pub own : OwnNeighbours P low high
+  pub rows : Kept P T buffer kept
+  pub room : kept ≤ length before
+
+-- a sweep of them for a steady pattern
+pub record SteadySweep (P T : List ℤ) (way : Relation) (buffer : List ℕ) (kept : ℕ) (before : List ℕ) : Type 0 where
+  pub steady : Steady P way
+  pub rows : Kept P T buffer kept
   pub room : kept ≤ length before
 
 -- what the duels leave, written out
@@ -91,6 +110,7 @@ pub record PositionsOf (P T : List ℤ) (before after : List ℕ) (spent found :
 
 -- everything that a search checks before it stores
 pub record Searchable (P : List ℤ) (low high wi wj : List ℕ) (T : List ℤ) (windows survivors positions : ℕ) : Type 0 where
+  pub some : 0 < length P
   pub number : windows ≡ windowsOf (length P) (length T)
   pub neighbours : OwnNeighbours P low high
   pub witnesses : OwnWitnesses P wi wj

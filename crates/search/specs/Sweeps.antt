@@ -15,6 +15,11 @@ pub record SweptOne (P T : List ℤ) (x from before reach spent : ℕ) (whole : 
   pub until : reach ≤ max from (x + length P)
   pub bound : spent ≤ before + 2 * (reach - from) + 2
 
+-- the tests of one survivor of a steady pattern: no more comparisons than samples passed and one that fails
+pub record Climbed (P T : List ℤ) (x from before reach spent : ℕ) (whole : Bool) : Type 0 where
+  pub swept-one : SweptOne P T x from before reach spent whole
+  pub cheap : spent + from ≤ before + reach + 1
+
 -- the first k survivors have been swept
 pub record SweptTo (P T : List ℤ) (kept : ℕ) (before after : List ℕ) (k reach spent found : ℕ) : Type 0 where
   pub within : k ≤ kept
@@ -25,8 +30,10 @@ pub record SweptTo (P T : List ℤ) (kept : ℕ) (before after : List ℕ) (k re
   pub beyond : drop kept after ≡ drop kept before
   pub state : sweepAll cost (testsOf P T) (length P) (drop k (survivors P T)) (swept reach spent (take found after)) ≡ sweptBy cost P T
 
-pub record SweepOf (P T : List ℤ) (kept : ℕ) (before after : List ℕ) (spent found : ℕ) : Type 0 where
+-- all have been swept: `spent` is W, and `made` is the number of comparisons that it took, at most 2(n + S)
+pub record SweepOf (P T : List ℤ) (kept : ℕ) (before after : List ℕ) (spent made found : ℕ) : Type 0 where
   pub cost-is : spent ≡ sweepCost P T
+  pub bound : made ≤ 2 * (length T + kept)
   pub listed : take found after ≡ positions P T
   pub few : found ≤ kept
   pub beyond : drop kept after ≡ drop kept before

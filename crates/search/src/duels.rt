@@ -2,9 +2,8 @@
 // agree or it falls. What the stack holds at the end are the survivors.
 //
 // Follows docs/RULES.md, "Duels" (Jargalsaikhan 2022, section 3, counted from zero). Each duel drops a window, so N windows
-// fight at most N duels, of one comparison each. The stack is the survivors buffer itself. A pattern that agrees with itself one
-// sample on has no duels, and costs a store a window. Callers hand over the pattern's own tables and a buffer with room for every
-// window.
+// fight at most N duels, of one comparison each. The stack is the survivors buffer itself. The windows of a steady pattern
+// (course.rt) fight none, and cost a store each. Callers hand over the pattern's own tables and a buffer with room for every window.
 
 use crate::codes::code_at;
 use crate::codes::write_codes;
@@ -13,17 +12,18 @@ use order::NONE;
 use order::Offset;
 use order::PATTERN_LIMIT;
 use order::Place;
+use order::Relation;
 use order::Window;
 use order::wide16;
 use order::wide32;
 ghost use mathlib.Core.Path.{_≡_};
-ghost use mathlib.Core.Bool.{true};
 ghost use Prim.Native.Nat.{_+_, _≤_, _<_};
 ghost use lib.ListN.{length};
 ghost use Rattle.order.specs.Sizes.{windowsOf, traceLimit};
 ghost use Rattle.order.specs.Duels.{duel as duelOf, meets};
-ghost use Rattle.search.specs.Asked.{Duelable, Meetable, OwnWitnesses, SideBySide, Duels};
+ghost use Rattle.search.specs.Asked.{Duelable, Meetable, Duels};
 ghost use Rattle.search.specs.Codes.{bothCodes, Coded};
+ghost use Rattle.search.specs.Courses.{Steady};
 ghost use Rattle.search.specs.Stacks.{DuelsOf};
 
 // Whether an arriving window ends on the stack.
@@ -53,10 +53,7 @@ fn duel(
     requires { ⌜ Duelable (now pattern) (now trace) (y .0) (a .0) (i .0) (j .0) × (codes ≡ bothCodes (now pattern) (a .0) (i .0) (j .0)) ⌝ }
     ensures { λ r. ⌜ r ≡ duelOf (now (pattern .entry)) (now (trace .entry)) (y .0) (a .0) (i .0) (j .0) ⌝ }
 {
-    let y = y.0;
-    let i = i.0;
-    let j = j.0;
-    let seen = code_at(trace, y + i, y + j);
+    let seen = code_at(trace, y, i, j);
     if seen == codes / 4 {
         return Meeting::NewerFalls;
     }
@@ -157,20 +154,15 @@ fn duel_all(
     Duelled { kept, fought }
 }
 
-// Whether the pattern agrees with itself one sample on, so that any two windows beside each other agree.
-fn side_by_side(pattern: &[i32], witness_i: &[u16], witness_j: &[u16]) -> bool
-    requires { ⌜ OwnWitnesses (now pattern) (now «witness_i») (now «witness_j») ⌝ }
-    ensures { λ r. ⌜ (r ≡ true → SideBySide (now (pattern .entry))) ⌝ }
-{
-    if pattern.len() <= 1 {
-        return true;
-    }
-    witness_i[1] == NONE
-}
-
 // All windows below `windows` arrive where each agrees with the one before it: every one is pushed.
-fn keep_all(pattern: &[i32], trace: &[i32], windows: usize, survivors: &mut [u32])
-    requires { ⌜ SideBySide (now pattern) × (windows ≡ windowsOf (length (now pattern)) (length (now trace))) × (length (now trace) ≤ traceLimit) × (windows ≤ length (now survivors)) ⌝ }
+pub(crate) fn keep_all(
+    pattern: &[i32],
+    trace: &[i32],
+    way: Relation,
+    windows: usize,
+    survivors: &mut [u32],
+)
+    requires { ⌜ Steady (now pattern) way × (windows ≡ windowsOf (length (now pattern)) (length (now trace))) × (length (now trace) ≤ traceLimit) × (windows ≤ length (now survivors)) ⌝ }
     ensures { λ r. ⌜ DuelsOf (now (pattern .entry)) (now (trace .entry)) windows (now (survivors .entry)) (now (survivors .exit)) windows 0 ⌝ }
 {
     for y in 0..windows {
@@ -178,7 +170,7 @@ fn keep_all(pattern: &[i32], trace: &[i32], windows: usize, survivors: &mut [u32
     }
 }
 
-// The duels of all windows below `windows`.
+// All windows below `windows` arrive and duel by the witness tables.
 pub(crate) fn duel_windows(
     pattern: &[i32],
     witness_i: &[u16],
@@ -190,13 +182,6 @@ pub(crate) fn duel_windows(
     requires { ⌜ Duels (now pattern) (now «witness_i») (now «witness_j») (now trace) windows (now survivors) ⌝ }
     ensures { λ r. ⌜ DuelsOf (now (pattern .entry)) (now (trace .entry)) windows (now (survivors .entry)) (now (survivors .exit)) (r .kept) (r .fought) ⌝ }
 {
-    if side_by_side(pattern, witness_i, witness_j) {
-        keep_all(pattern, trace, windows, survivors);
-        return Duelled {
-            kept: windows,
-            fought: 0,
-        };
-    }
     let mut codes = [0u8; PATTERN_LIMIT];
     write_codes(pattern, witness_i, witness_j, &mut codes);
     duel_all(

@@ -5,9 +5,10 @@
 
 mod answers;
 mod codes;
+mod course;
 mod duels;
-mod runs;
 mod searching;
+mod steady;
 mod sweep;
 mod unused_entries;
 

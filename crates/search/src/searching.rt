@@ -1,12 +1,17 @@
-// Search: from a pattern, its tables and a trace the survivors, the positions and the counts.
+// Search: what a pattern, with its tables, has for survivors and matches in a trace, and what finding them counts.
 //
 // Follows docs/RULES.md, "Duels", "Sweep", "Counts", "What is written" and "Refusals" (Jargalsaikhan 2022, section 3). Sizes
-// are looked at first, then the tables, then the work is done: a refused call has stored nothing. Duels and sweep take at most
-// N + 2(n + S) comparisons; `tables::check_tables` says what the check of the tables takes.
+// are looked at first, then the tables, then the work is done: a refused call has stored nothing. The duels make D comparisons of the
+// trace and the sweep at most 2(n + S), blocks and looks that fail counted in; the pattern is compared with itself besides, twice for
+// each offset with a witness or once (codes.rt, course.rt). `tables::check_tables` says what the check of the tables takes.
 
 use crate::answers::Searched;
+use crate::course::Course;
+use crate::course::course_of;
 use crate::duels::Duelled;
 use crate::duels::duel_windows;
+use crate::duels::keep_all;
+use crate::steady::sweep_steady;
 use crate::sweep::Swept;
 use crate::sweep::sweep_all;
 use crate::unused_entries::fill_unused;
@@ -18,7 +23,10 @@ ghost use lib.ListN.{length};
 ghost use Rattle.order.specs.Sizes.{windowsOf};
 ghost use Rattle.order.specs.Refusals.{searchVerdict};
 ghost use Rattle.tables.specs.Lengths.{lengthsBy};
-ghost use Rattle.search.specs.Asked.{Duels, SurvivorsOf, Listable, PositionsOf, Searchable, SearchedOf};
+ghost use Rattle.search.specs.Asked.{Duels, SurvivorsOf, Sweeps, Listable, PositionsOf, Searchable, SearchedOf};
+ghost use Rattle.search.specs.Courses.{Chosen};
+ghost use Rattle.search.specs.Stacks.{DuelsOf};
+ghost use Rattle.search.specs.Sweeps.{SweepOf};
 ghost use Rattle.search.specs.SearchPromise.{SearchPromise};
 
 // All the conditions of a search, in the order of their numbers; where none holds, the number of windows.
@@ -54,6 +62,31 @@ fn check_search(
     }
 }
 
+// The duels, of which a steady pattern has none.
+fn keep_windows(
+    pattern: &[i32],
+    witness_i: &[u16],
+    witness_j: &[u16],
+    trace: &[i32],
+    windows: usize,
+    course: Course,
+    survivors: &mut [u32],
+) -> Duelled
+    requires { ⌜ Duels (now pattern) (now «witness_i») (now «witness_j») (now trace) windows (now survivors) × Chosen (now pattern) course ⌝ }
+    ensures { λ r. ⌜ DuelsOf (now (pattern .entry)) (now (trace .entry)) windows (now (survivors .entry)) (now (survivors .exit)) (r .kept) (r .fought) ⌝ }
+{
+    match course {
+        Course::Steady(way) => {
+            keep_all(pattern, trace, way, windows, survivors);
+            Duelled {
+                kept: windows,
+                fought: 0,
+            }
+        }
+        Course::Mixed => duel_windows(pattern, witness_i, witness_j, trace, windows, survivors),
+    }
+}
+
 // The duels, and "unused" after the survivors.
 fn find_survivors(
     pattern: &[i32],
@@ -61,15 +94,44 @@ fn find_survivors(
     witness_j: &[u16],
     trace: &[i32],
     windows: usize,
+    course: Course,
     survivors: &mut [u32],
 ) -> Duelled
-    requires { ⌜ Duels (now pattern) (now «witness_i») (now «witness_j») (now trace) windows (now survivors) ⌝ }
+    requires { ⌜ Duels (now pattern) (now «witness_i») (now «witness_j») (now trace) windows (now survivors) × Chosen (now pattern) course ⌝ }
     ensures { λ r. ⌜ SurvivorsOf (now (pattern .entry)) (now (trace .entry)) (now (survivors .entry)) (now (survivors .exit)) (r .kept) (r .fought) ⌝ }
 {
-    let end = duel_windows(pattern, witness_i, witness_j, trace, windows, survivors);
+    let end = keep_windows(
+        pattern,
+        witness_i,
+        witness_j,
+        trace,
+        windows,
+        course,
+        survivors,
+    );
     let kept = end.kept;
     fill_unused(survivors, kept, windows);
     end
+}
+
+// The sweep, the pattern's way.
+fn sweep_windows(
+    pattern: &[i32],
+    low: &[u16],
+    high: &[u16],
+    trace: &[i32],
+    survivors: &[u32],
+    kept: usize,
+    course: Course,
+    positions: &mut [u32],
+) -> Swept
+    requires { ⌜ Sweeps (now pattern) (now low) (now high) (now trace) (now survivors) kept (now positions) × Chosen (now pattern) course ⌝ }
+    ensures { λ r. ⌜ SweepOf (now (pattern .entry)) (now (trace .entry)) kept (now (positions .entry)) (now (positions .exit)) (r .spent) (r .made) (r .found) ⌝ }
+{
+    match course {
+        Course::Steady(way) => sweep_steady(pattern, trace, way, survivors, kept, positions),
+        Course::Mixed => sweep_all(pattern, low, high, trace, survivors, kept, positions),
+    }
 }
 
 // The sweep, and "unused" after the positions.
@@ -81,12 +143,22 @@ fn list_positions(
     survivors: &[u32],
     kept: usize,
     windows: usize,
+    course: Course,
     positions: &mut [u32],
 ) -> Swept
-    requires { ⌜ Listable (now pattern) (now low) (now high) (now trace) (now survivors) kept windows (now positions) ⌝ }
+    requires { ⌜ Listable (now pattern) (now low) (now high) (now trace) (now survivors) kept windows (now positions) × Chosen (now pattern) course ⌝ }
     ensures { λ r. ⌜ PositionsOf (now (pattern .entry)) (now (trace .entry)) (now (positions .entry)) (now (positions .exit)) (r .spent) (r .found) ⌝ }
 {
-    let end = sweep_all(pattern, low, high, trace, survivors, kept, positions);
+    let end = sweep_windows(
+        pattern,
+        low,
+        high,
+        trace,
+        survivors,
+        kept,
+        course,
+        positions,
+    );
     let found = end.found;
     fill_unused(positions, found, windows);
     end
@@ -107,7 +179,16 @@ fn run(
     requires { ⌜ Searchable (now pattern) (now low) (now high) (now «witness_i») (now «witness_j») (now trace) windows (length (now survivors)) (length (now positions)) ⌝ }
     ensures { λ r. ⌜ SearchedOf (now (pattern .entry)) (now (trace .entry)) (now (survivors .entry)) (now (positions .entry)) (now (survivors .exit)) (now (positions .exit)) r ⌝ }
 {
-    let duelled = find_survivors(pattern, witness_i, witness_j, trace, windows, survivors);
+    let course = course_of(pattern, witness_i);
+    let duelled = find_survivors(
+        pattern,
+        witness_i,
+        witness_j,
+        trace,
+        windows,
+        course,
+        survivors,
+    );
     let kept = duelled.kept;
     let swept = list_positions(
         pattern,
@@ -117,6 +198,7 @@ fn run(
         survivors,
         kept,
         windows,
+        course,
         positions,
     );
     let found = swept.found;

@@ -10,6 +10,7 @@ use native.Mathlib.Numerals.{add-one}
 use lib.IntN.{ℤ}
 use lib.ListN.{length, getD, take, drop, length-drop}
 use lib.Seq.{take-all}
+use Rattle.order.specs.declared.kinds.Place.{Place}
 use Rattle.order.specs.declared.steps.Tested.{Tested}
 use Rattle.order.specs.declared.steps.Tested.the-variants.{Passed, Failed}
 use Rattle.order.specs.Sizes.{none, place, noPlace}
@@ -49,23 +50,23 @@ passed-passes : {r : Tested} {c : ℕ} → r ≡ Passed c → passes r ≡ true
 unfolding passes
 passed-passes e = rw e refl
 
-failed-fails : {r : Tested} {c i : ℕ} → r ≡ Failed c i → passes r ≡ false
+failed-fails : {r : Tested} {c : ℕ} {i : Place} → r ≡ Failed c i → passes r ≡ false
 unfolding passes
 failed-fails e = rw e refl
 
-failed-at : {r : Tested} {c i : ℕ} → r ≡ Failed c i → failedAt r ≡ place i
+failed-at : {r : Tested} {c : ℕ} {i : Place} → r ≡ Failed c i → failedAt r ≡ place (i .0)
 unfolding failedAt
 failed-at e = rw e refl
 
 -- a test that fails does so at an earlier place
-pub failed-before : (P v : List ℤ) (j : ℕ) {c i : ℕ} → testOf P v j ≡ Failed c i → i < j
+pub failed-before : (P v : List ℤ) (j : ℕ) {c : ℕ} {i : Place} → testOf P v j ≡ Failed c i → i .0 < j
 failed-before P v j {c} {i} e =
     let f = fails-at P v j (failed-fails e) in
-    let same : f .0 ≡ i = unplace (sym (f .1) ∙ failed-at e) in
+    let same : f .0 ≡ i .0 = unplace (sym (f .1) ∙ failed-at e) in
     let h : f .0 < j = f .2 .earlier in
     omega arith
   where
-    unplace : {n : ℕ} → place n ≡ place i → n ≡ i
+    unplace : {n : ℕ} → place n ≡ place (i .0) → n ≡ i .0
     unplace q = cc
 
 module _ {P : List ℤ} {a j : ℕ} (k : KnownBelow P a j) where
@@ -88,7 +89,7 @@ module _ {P : List ℤ} {a j : ℕ} (k : KnownBelow P a j) where
       nowhere : firstFail P (drop a P) (length P - a) ≡ none
       nowhere = rw all (k .known)
 
-  pub known-fails : {c i : ℕ} → j < length P - a → testOf P (drop a P) j ≡ Failed c i → OwnWitness P a i j
+  pub known-fails : {c : ℕ} {i : Place} → j < length P - a → testOf P (drop a P) j ≡ Failed c i → OwnWitness P a (i .0) j
   unfolding witnessI witnessJ neighbourAt
   known-fails {c} {i} h e =
       record {

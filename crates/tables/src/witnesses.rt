@@ -39,7 +39,7 @@ fn witness_from(pattern: &[i32], low: &[u16], high: &[u16], offset: Offset, from
             Tested::Passed(_) => {}
             Tested::Failed(_, i) => {
                 return Witness {
-                    i: i as u16,
+                    i: i.0 as u16,
                     j: j as u16,
                 };
             }

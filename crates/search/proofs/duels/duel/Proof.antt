@@ -5,12 +5,6 @@ use borrow.Author.Needs.{needs}
 use Rattle.search.proofs.duels.duel.Statement.{statement}
 use Rattle.search.proofs.duels.duel.Tie as tie
 
-add-code-at : tie.Need-add-code-at
-add-code-at c = search needs
-
-add-code-at-2 : tie.Need-add-code-at-2
-add-code-at-2 c = search needs
-
 code-at-requires : tie.Need-code-at-requires
 code-at-requires c κs = search needs
 
@@ -28,4 +22,4 @@ returns-3 c =
     both-fall (b .before .before .pre .0) (b .before .before .pre .1) (b .before .code-at .ensures .0) (b .if1 .left) (c .if2 .left)
 
 pub duel-spec : {M : Type 1} → statement M
-duel-spec = tie.close (tie.spec add-code-at add-code-at-2 code-at-requires returns returns-2 returns-3)
+duel-spec = tie.close (tie.spec code-at-requires returns returns-2 returns-3)

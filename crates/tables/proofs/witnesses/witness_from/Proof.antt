@@ -97,20 +97,23 @@ fails c =
 
 cast-t23 : tie.Need-cast-t23 Inv-loop μ-loop
 cast-t23 c =
-    let h = failed-before _ _ _ (fails c) in
-    let i = inside c in
-    let l = c .before .before .before .before .before .before .before .before .before .before .before .pre .0 .limit in
+    let t = c .before in
+    let h = failed-before _ _ _ (fails t) in
+    let i = inside t in
+    let l = t .before .before .before .before .before .before .before .before .before .before .before .pre .0 .limit in
     omega arith
 
 cast-t24 : tie.Need-cast-t24 Inv-loop μ-loop
 cast-t24 c =
-    let i = inside c in
-    let l = c .before .before .before .before .before .before .before .before .before .before .before .pre .0 .limit in
+    let t = c .before in
+    let i = inside t in
+    let l = t .before .before .before .before .before .before .before .before .before .before .before .pre .0 .limit in
     omega arith
 
 returns : tie.Need-returns Inv-loop μ-loop
 returns c =
-    known-fails (c .before .before .before .before .before .before .before .loop .inv) (inside c) (fails c)
+    let t = c .before in
+    known-fails (t .before .before .before .before .before .before .before .loop .inv) (inside t) (fails t)
 
 add-j : tie.Need-add-j Inv-loop μ-loop
 add-j c = search needs

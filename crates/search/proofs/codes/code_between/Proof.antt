@@ -1,12 +1,12 @@
--- `code_at` meets its contract: the samples' bits stand for the samples.
+-- `code_between` meets its contract: the samples' bits stand for the samples.
 -- Assumes nothing.
 use mathlib.Core.Path.{_∙_, ap, ap₂}
 use borrow.Author.Needs.{needs, sfits-of}
 use mir.Facts.{toZ-ofZ}
 use Rattle.order.specs.Relations.{rel}
 use Rattle.search.specs.Codes.{code}
-use Rattle.search.proofs.codes.code_at.Statement.{statement}
-use Rattle.search.proofs.codes.code_at.Tie as tie
+use Rattle.search.proofs.codes.code_between.Statement.{statement}
+use Rattle.search.proofs.codes.code_between.Tie as tie
 
 mul-compare : tie.Need-mul-compare
 mul-compare c = search needs
@@ -33,8 +33,8 @@ returns c = (
   c .code .ensures .1,
 )
 
-pub code-at-spec : {M : Type 1} → statement M
-code-at-spec =
+pub code-between-spec : {M : Type 1} → statement M
+code-between-spec =
     tie.close
     (tie.spec
     mul-compare

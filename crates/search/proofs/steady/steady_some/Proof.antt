@@ -1,6 +1,7 @@
--- `sweep_some` meets its contract: each turn sweeps one survivor as the rules do.
+-- `steady_some` meets its contract: each turn sweeps one survivor as the rules do, at one comparison for each
+-- sample passed and one more if it fails.
 -- Assumes nothing.
-use Prim.Native.Nat.{ℕ, _≤_, _<_, _-_}
+use Prim.Native.Nat.{ℕ, _+_, _≤_, _<_, _-_}
 use mathlib.Core.Path.{subst}
 use native.Mathlib.Nat.{le-antisymm}
 use native.Mathlib.Omega.{arith}
@@ -8,18 +9,18 @@ use denote.Ref.{now}
 use Rattle.search.specs.Sweeps.{SweptTo}
 use Rattle.search.proofs.SweepSteps.{next-swept, entry-of, rows-number, rows-few, rows-inside, swept-as}
 use borrow.Author.Needs.{needs}
-use Rattle.search.proofs.sweep.sweep_some.Statement.{statement}
-use Rattle.search.proofs.sweep.sweep_some.Tie as tie
+use Rattle.search.proofs.steady.steady_some.Statement.{statement}
+use Rattle.search.proofs.steady.steady_some.Tie as tie
 
 abbrev Inv-loop : tie.InvT-loop
-Inv-loop pattern low high trace survivors kept first to positions₀ reach₀ spent₀ found₀ k₀ positions reach spent found k =
-    (k ≤ to) × SweptTo pattern trace kept positions₀ positions k reach spent found
+Inv-loop pattern trace way survivors kept first to positions₀ reach₀ spent₀ found₀ k₀ positions reach spent found k =
+    (k ≤ to) × SweptTo pattern trace kept positions₀ positions k reach spent found × (spent + (reach₀ + first) ≤ spent₀ + (reach + k))
 
 abbrev μ-loop : tie.MeasureT-loop
-μ-loop pattern low high trace survivors kept first to positions₀ reach₀ spent₀ found₀ k₀ positions reach spent found k = to - k
+μ-loop pattern trace way survivors kept first to positions₀ reach₀ spent₀ found₀ k₀ positions reach spent found k = to - k
 
 loop-holds : tie.Need-loop-holds Inv-loop μ-loop
-loop-holds c = (c .before .before .before .before .pre .1, c .before .before .before .before .pre .3)
+loop-holds c = (c .before .before .pre .1, c .before .before .pre .3, omega arith)
 
 mul-x : tie.Need-mul-x Inv-loop μ-loop
 mul-x c = search needs
@@ -33,9 +34,9 @@ wide32-requires c κs = search needs
 larger-requires : tie.Need-larger-requires Inv-loop μ-loop
 larger-requires c κs = search needs
 
-sweep-from-requires : tie.Need-sweep-from-requires Inv-loop μ-loop
-sweep-from-requires c κs =
-    let s = c .before .before .before .before .before .before .before .before .before in
+climb-requires : tie.Need-climb-requires Inv-loop μ-loop
+climb-requires c κs =
+    let s = c .before .before .before .before .before .before .before in
     let l = c .before .before .before .before .loop in
     let h = c .before .before .before .loop-test .taken in
     let b = l .inv .1 .bound in
@@ -47,11 +48,11 @@ sweep-from-requires c κs =
     let x = c .before .wide32 .ensures .0 in
     let e = rows-inside rows (l .k) (omega arith) in
     let g = c .larger .ensures in
-    record { own = rows .own; trace = t; inside = omega arith; begun = omega arith; reached = omega arith; small = omega (arith, rows-few rows) }
+    record { steady = s .pre .0 .steady; trace = t; inside = omega arith; begun = omega arith; reached = omega arith; small = omega (arith, rows-few rows) }
 
 list-one-requires : tie.Need-list-one-requires Inv-loop μ-loop
 list-one-requires c κs =
-    let s = c .before .before .before .before .before .before .before .before .before .before .before in
+    let s = c .before .before .before .before .before .before .before .before .before in
     let i = c .before .before .before .before .before .before .loop .inv .1 in
     let f = i .few in
     let l = i .long in
@@ -68,7 +69,7 @@ loop-less c = search needs
 
 loop-again : tie.Need-loop-again Inv-loop μ-loop
 loop-again c =
-    let s = c .before .before .before .before .before .before .before .before .before .before .before .before .before .before in
+    let s = c .before .before .before .before .before .before .before .before .before .before .before .before in
     let l = c .before .before .before .before .before .before .before .before .before .loop in
     let t = c .before .before .before .before .before .before .before .before .loop-test .taken in
     let to = s .pre .2 in
@@ -78,7 +79,8 @@ loop-again c =
       omega arith,
       rw (c .before .before .list-one .ensures .0, c .before .before .list-one .ensures .1)
           (next-swept (l .inv .1) h (rows-number rows) e (s .pre .0 .room)
-          (swept-as (l .reach) (c .before .before .before .before .before .before .wide32 .ensures .0) (c .before .before .before .before .before .larger .ensures) (c .before .before .before .before .sweep-from .ensures)) (rows-inside rows (l .k) h)),
+          (swept-as (l .reach) (c .before .before .before .before .before .before .wide32 .ensures .0) (c .before .before .before .before .before .larger .ensures) (c .before .before .before .before .climb .ensures .swept-one)) (rows-inside rows (l .k) h)),
+      (let g = c .before .before .before .before .climb .ensures .cheap in let m = c .before .before .before .before .before .larger .ensures in let i = l .inv .2 in omega arith),
     )
 
 same-length : tie.Need-same-length Inv-loop μ-loop
@@ -86,13 +88,16 @@ same-length c = c .before .loop .inv .1 .long
 
 returns : tie.Need-returns Inv-loop μ-loop
 returns c =
-    let s = c .before .before .before .before .before .before in
+    let s = c .before .before .before .before in
     let l = c .before .loop in
-    subst (λ (n : ℕ). SweptTo (now (s .args .pattern)) (now (s .args .trace)) (s .args .kept) (now (s .args .positions)) (l .positions) n (l .reach) (l .spent) (l .found))
-    (le-antisymm (l .inv .0) (c .loop-test .left)) (l .inv .1)
+    let i = l .inv .2 in
+    let end = le-antisymm (l .inv .0) (c .loop-test .left) in (
+      subst (λ (n : ℕ). SweptTo (now (s .args .pattern)) (now (s .args .trace)) (s .args .kept) (now (s .args .positions)) (l .positions) n (l .reach) (l .spent) (l .found)) end (l .inv .1),
+      omega arith,
+    )
 
-pub sweep-some-spec : {M : Type 1} → statement M
-sweep-some-spec =
+pub steady-some-spec : {M : Type 1} → statement M
+steady-some-spec =
     tie.close
     (tie.spec
     Inv-loop
@@ -102,7 +107,7 @@ sweep-some-spec =
     shared-slice-read-x
     wide32-requires
     larger-requires
-    sweep-from-requires
+    climb-requires
     list-one-requires
     add-k
     loop-less

@@ -1,4 +1,4 @@
--- `list_run` meets its contract. The loop's invariant: the entries passed are listed. The measure is the entries left.
+-- `list_block` meets its contract. The loop's invariant: the entries passed are listed. The measure is the entries left.
 -- Assumes nothing.
 use Prim.Native.Nat.{ℕ, _+_, _-_, _≤_}
 use mathlib.Core.Path.{_≡_, refl, _∙_, sym, ap}
@@ -10,15 +10,15 @@ use lib.ListN.{length, length-set, getD, set}
 use Rattle.search.specs.Runs.{listedRun}
 use Rattle.search.proofs.RunLaws.{listed-none, listed-more}
 use borrow.Author.Needs.{needs}
-use Rattle.search.proofs.runs.list_run.Statement.{statement}
-use Rattle.search.proofs.runs.list_run.Tie as tie
+use Rattle.search.proofs.steady.list_block.Statement.{statement}
+use Rattle.search.proofs.steady.list_block.Tie as tie
 
 abbrev Inv-loop : tie.InvT-loop
-Inv-loop survivors k windows positions₀ found i₀ positions i =
-    (i ≤ windows) × (length positions ≡ length positions₀) × (positions ≡ listedRun survivors k found i positions₀)
+Inv-loop survivors k positions₀ found i₀ positions i =
+    (i ≤ 64) × (length positions ≡ length positions₀) × (positions ≡ listedRun survivors k found i positions₀)
 
 abbrev μ-loop : tie.MeasureT-loop
-μ-loop survivors k windows positions₀ found i₀ positions i = windows - i
+μ-loop survivors k positions₀ found i₀ positions i = 64 - i
 
 loop-holds : tie.Need-loop-holds Inv-loop μ-loop
 loop-holds c = (omega arith, refl, sym (listed-none _ _ _ _))
@@ -63,8 +63,8 @@ returns c =
     let end = le-antisymm (c .before .loop .inv .0) (c .loop-test .left) in
     c .before .loop .inv .2 ∙ ap (λ (n : ℕ). listedRun (now (a .survivors)) (a .k) (a .found) n (now (a .positions))) end
 
-pub list-run-spec : {M : Type 1} → statement M
-list-run-spec =
+pub list-block-spec : {M : Type 1} → statement M
+list-block-spec =
     tie.close
     (tie.spec
     Inv-loop
