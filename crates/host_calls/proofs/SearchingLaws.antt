@@ -1,5 +1,6 @@
 -- Shows: a search by the fronts of the host's tables is one by the whole tables; lengths that fit give what the search asks, and
--- others the search's refusal; so what the call leaves meets its promise, which no second result or byte satisfies.
+-- others the search's refusal; so what the call leaves meets its promise, the demands among it, which no second result or byte
+-- satisfies.
 -- Assumes nothing.
 use Prim.Native.Nat.{ℕ, zero, suc, _-_, _/_, _≤_, _<_}
 use mathlib.Core.Path.{_≡_, refl, sym, _∙_, ap, ap₂}
@@ -29,17 +30,20 @@ use Rattle.tables.specs.declared.fitting_lengths.Fitting.the-variants.{Fit, Ref
 use Rattle.order.specs.Written.{afterVerdict}
 use Rattle.tables.specs.Asked.{Room}
 use Rattle.search.specs.SearchPromise.{SearchPromise, searchedBy}
-use Rattle.tables.specs.Lengths.{lengthsVerdict, LengthsPromise}
+use Rattle.tables.specs.Lengths.{lengthsVerdict, lengthsBy, LengthsPromise}
 use Rattle.tables.proofs.Verdicts.{pattern-passed, tables-passed}
 use Rattle.tables.proofs.Verdicts.{room-passed}
 use Rattle.search.proofs.WrittenOut.{positions-few}
+use Rattle.search.proofs.SearchLaws.{search-ready}
 use Rattle.wire.specs.Bytes.{firstEntries, samplesIn, entriesIn, bytesOf}
 use Rattle.wire.specs.Results.{coded, codedRefusal, countsList}
 use Rattle.wire.specs.Handed.{entriesTaken, wordsPut, AnswerPut}
+use Rattle.wire.proofs.Numbers.{only-accepted}
 use Rattle.wire.proofs.Handing.{entries-taken, words-put}
-use Rattle.host_calls.specs.HostPromises.{HostSearch, searchCase}
+use Rattle.host_calls.specs.HostPromises.{HostSearch, searchCase, keptBytes, listedBytes, countBytes}
 use Rattle.host_calls.specs.Inside.{Fits, Arrays}
 use Rattle.host_calls.proofs.PrepareLaws.{fit-case, refused-case}
+use Rattle.host_calls.proofs.HostDemands.{counts-back, demands-back}
 
 -- ---- the search's arrays hold the host's entries
 
@@ -182,6 +186,28 @@ module _ (pattern low high wi wj trace survivors positions counts : List ℕ) wh
   abbrev Lengths : ℕ → Type 0
   Lengths windows = Fits (length pattern) (length low) (length high) (length wi) (length wj) (length trace) (length survivors) (length positions) windows
 
+  -- the result and the bytes are all that is to be shown of a call: what the host reads of them then meets the demands
+  promised : {r : ℕ} {survivors' positions' counts' : List ℕ} → r ≡ coded verdict → survivors' ≡ afterVerdict verdict (keptBytes P T) survivors
+      → positions' ≡ afterVerdict verdict (listedBytes P T) positions → counts' ≡ afterVerdict verdict (countBytes P T (length counts / 4)) counts
+      → HostSearch pattern low high wi wj trace survivors positions counts r survivors' positions' counts'
+  promised {r} e s p c =
+      record {
+        result = e;
+        survivors-after = s;
+        positions-after = p;
+        counts-after = c;
+        counts-read = λ z. let a = done z in rw (c, a) (counts-back P T (limit a) counts);
+        demands = λ z. let a = done z in rw (s, p, a) (demands-back P T (limit a) survivors positions);
+      }
+    where
+      done : r ≡ 0 → verdict ≡ accepted
+      done z = only-accepted verdict (sym e ∙ z)
+
+      limit : verdict ≡ accepted → length T ≤ traceLimit
+      limit a =
+          search-ready P (entriesIn low) (entriesIn high) (entriesIn wi) (entriesIn wj) T (length survivors / 4) (length positions / 4)
+          (sym (ap (λ v. lengthsBy v (windowsOf (length P) (length T))) a)) .trace
+
   -- the verdict on the lists that the search is given is the verdict on the host's
   same-verdict : {windows s p : ℕ} → Lengths windows → windows ≤ s → windows ≤ p
       → searchVerdict P (firstEntries low m) (firstEntries high m) (firstEntries wi m) (firstEntries wj m) T s p ≡ verdict
@@ -223,7 +249,7 @@ module _ (pattern low high wi wj trace survivors positions counts : List ℕ) wh
       let h = handed verdict kept listed (rw v at (q .answer)) (rw v at (q .survivors-after)) (rw v at (q .positions-after))
       (length-filled (kept-windows P T) N (omega (arith, duels-and-survivors P T)) ∙ number)
       (length-filled (listed-windows P T) N (positions-few P T) ∙ number) (omega arith) (omega arith) a in
-      record { result = h .result; survivors-after = h .kept-is; positions-after = h .listed-is; counts-after = h .counts-is }
+      promised (h .result) (h .kept-is) (h .listed-is) (h .counts-is)
 
   -- ---- the look at the lengths
 
@@ -263,7 +289,7 @@ module _ (pattern low high wi wj trace survivors positions counts : List ℕ) wh
       let v : verdict ≡ refused why =
       rw (length-each, length-each, length-each, length-each, length-each, length-each)
       (stays m (length low / 2) (length high / 2) (length wi / 2) (length wj / 2) n (length survivors / 4) (length positions / 4) why _ f) in
-      record { result = rw v c; survivors-after = rw v refl; positions-after = rw v refl; counts-after = rw v refl }
+      promised (rw v c) (rw v refl) (rw v refl) (rw v refl)
 
   -- no second result, and no other byte in a buffer
   pub tension-search-only-answer : {r s : ℕ} {kept₁ listed₁ counts₁ kept₂ listed₂ counts₂ : List ℕ}

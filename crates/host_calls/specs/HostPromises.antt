@@ -11,9 +11,10 @@ use Rattle.order.specs.Witnesses.{witnessITable, witnessJTable}
 use Rattle.order.specs.Duels.{survivors}
 use Rattle.order.specs.Sweeping.{positions}
 use Rattle.order.specs.Written.{countsOf, filled}
+use Rattle.order.specs.Demands.{Demands}
 use Rattle.order.specs.Refusals.{Verdict, prepareVerdict, searchVerdict}
 use Rattle.order.specs.Written.{afterVerdict}
-use Rattle.wire.specs.Bytes.{samplesIn, entriesIn, bytesOf}
+use Rattle.wire.specs.Bytes.{samplesIn, entriesIn, wordsIn, bytesOf}
 use Rattle.wire.specs.Results.{coded, countsList}
 
 -- the verdict on the numbers of whole entries
@@ -45,10 +46,23 @@ listedBytes P T = bytesOf 4 (filled (positions P T) (windowsOf (length P) (lengt
 abbrev pub countBytes : List ℤ → List ℤ → ℕ → List ℕ
 countBytes P T room = bytesOf 4 (take room (countsList (countsOf P T)))
 
+-- what the host reads from its buffers after that, in entries of four bytes: S survivors and R positions
+abbrev pub keptRead : List ℤ → List ℤ → List ℕ → List ℕ
+keptRead P T bytes = take (countsOf P T .survivors) (wordsIn bytes)
+
+abbrev pub listedRead : List ℤ → List ℤ → List ℕ → List ℕ
+listedRead P T bytes = take (countsOf P T .found) (wordsIn bytes)
+
 -- a search by the bytes of a pattern, its tables and a trace, with buffers that hold kept, listed and counts: the result r, and
--- the buffers' bytes after it
+-- the buffers' bytes after it. A reader finds the three demands here: result and bytes are fixed for every input, refused ones too
+-- (demand 1), and an accepted search meets `Demands` (2 and 3), said of the numbers that the host reads from its buffers
 pub record HostSearch (pattern low high wi wj trace kept listed counts : List ℕ) (r : ℕ) (kept' listed' counts' : List ℕ) : Type 0 where
   pub result : r ≡ coded (searchCase pattern low high wi wj trace kept listed)
   pub survivors-after : kept' ≡ afterVerdict (searchCase pattern low high wi wj trace kept listed) (keptBytes (samplesIn pattern) (samplesIn trace)) kept
   pub positions-after : listed' ≡ afterVerdict (searchCase pattern low high wi wj trace kept listed) (listedBytes (samplesIn pattern) (samplesIn trace)) listed
   pub counts-after : counts' ≡ afterVerdict (searchCase pattern low high wi wj trace kept listed) (countBytes (samplesIn pattern) (samplesIn trace) (length counts / 4)) counts
+  -- accepted, which the host sees by a result of 0: the counts that it reads are N, D, S, W and R, as many of them as there is room for
+  pub counts-read : r ≡ 0 → take 5 (wordsIn counts') ≡ take (length counts / 4) (countsList (countsOf (samplesIn pattern) (samplesIn trace)))
+  -- demands 2 and 3, of these counts and of the survivors and positions that it reads
+  pub demands : r ≡ 0
+      → Demands (samplesIn pattern) (samplesIn trace) (keptRead (samplesIn pattern) (samplesIn trace) kept') (listedRead (samplesIn pattern) (samplesIn trace) listed') (countsOf (samplesIn pattern) (samplesIn trace))

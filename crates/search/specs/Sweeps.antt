@@ -1,5 +1,5 @@
 -- What the sweep leaves, of one survivor and of all.
-use Prim.Native.Nat.{ℕ, _+_, _-_, _*_, _≤_, max}
+use Prim.Native.Nat.{ℕ, _+_, _-_, _*_, _≤_, _<_, max}
 use mathlib.Core.Path.{_≡_}
 use mathlib.Core.List.{List, [], _∷_, _++_}
 use mathlib.Core.Bool.{Bool, cond}
@@ -29,6 +29,13 @@ pub record SweptTo (P T : List ℤ) (kept : ℕ) (before after : List ℕ) (k re
   pub long : length after ≡ length before
   pub beyond : drop kept after ≡ drop kept before
   pub state : sweepAll cost (testsOf P T) (length P) (drop k (survivors P T)) (swept reach spent (take found after)) ≡ sweptBy cost P T
+
+-- a turn of the sweep for a steady pattern has gone from survivor k to survivor k', with `wasted` comparisons of a look that failed: no
+-- more than one for each sample passed and two for each survivor done
+pub record TurnOf (P T : List ℤ) (kept : ℕ) (before after : List ℕ) (k reach spent k' reach' spent' found' wasted : ℕ) : Type 0 where
+  pub swept-on : SweptTo P T kept before after k' reach' spent' found'
+  pub onward : k < k'
+  pub cheap : spent' + wasted + (reach + 2 * k) ≤ spent + (reach' + 2 * k')
 
 -- all have been swept: `spent` is W, and `made` is the number of comparisons that it took, at most 2(n + S)
 pub record SweepOf (P T : List ℤ) (kept : ℕ) (before after : List ℕ) (spent made found : ℕ) : Type 0 where

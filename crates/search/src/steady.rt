@@ -24,7 +24,7 @@ ghost use Rattle.order.specs.EntryTest.{told};
 ghost use Rattle.search.specs.Asked.{Kept, Steadily, SteadySweep};
 ghost use Rattle.search.specs.Courses.{Steady};
 ghost use Rattle.search.specs.Runs.{GoesOn, LookOf, listedRun};
-ghost use Rattle.search.specs.Sweeps.{Climbed, SweptTo, SweepOf};
+ghost use Rattle.search.specs.Sweeps.{Climbed, SweptTo, TurnOf, SweepOf};
 
 // The windows of a block.
 const BLOCK: usize = 64;
@@ -202,8 +202,62 @@ fn list_block(survivors: &[u32], k: usize, positions: &mut [u32], found: usize)
     }
 }
 
-// All survivors, the first `kept` entries of their buffer: the first by itself, then a block where one passes and otherwise some one by
-// one before the next look.
+// What one turn of the sweep leaves: the survivor that comes next, how far the sweep has come, and the comparisons of a look that failed.
+struct Turn {
+    next: usize,
+    end: Progress,
+    wasted: u32,
+}
+
+// One turn from survivor k on: a block where one passes, and otherwise some survivors one by one before the next look.
+fn steady_turn(
+    pattern: &[i32],
+    trace: &[i32],
+    way: Relation,
+    survivors: &[u32],
+    kept: usize,
+    k: usize,
+    before: Progress,
+    positions: &mut [u32],
+) -> Turn
+    requires { ⌜ SteadySweep (now pattern) (now trace) way (now survivors) kept (now positions) × (k < kept) × SweptTo (now pattern) (now trace) kept (now positions) (now positions) k (before .reach) (before .spent) (before .found) ⌝ }
+    ensures { λ r. ⌜ TurnOf (now (pattern .entry)) (now (trace .entry)) kept (now (positions .entry)) (now (positions .exit)) k (before .reach) (before .spent) (r .next) (r .end .reach) (r .end .spent) (r .end .found) (r .wasted) ⌝ }
+{
+    let reach = before.reach;
+    let look = look_ahead(pattern, trace, way, survivors, kept, k, reach);
+    if look.whole {
+        let found = before.found;
+        list_block(survivors, k, positions, found);
+        return Turn {
+            next: k + BLOCK,
+            end: Progress {
+                reach: reach + BLOCK,
+                spent: before.spent + look.made,
+                found: found + BLOCK,
+            },
+            wasted: 0,
+        };
+    }
+    let next = smaller(kept, k + MANY);
+    let end = steady_some(
+        pattern,
+        trace,
+        way,
+        survivors,
+        kept,
+        k,
+        next,
+        before,
+        positions,
+    );
+    Turn {
+        next,
+        end,
+        wasted: look.made,
+    }
+}
+
+// All survivors, the first `kept` entries of their buffer: the first by itself, so that a block may follow it, then turn by turn.
 pub(crate) fn sweep_steady(
     pattern: &[i32],
     trace: &[i32],
@@ -232,39 +286,17 @@ pub(crate) fn sweep_steady(
         nothing,
         positions,
     );
-    let mut looked: u32 = 0; // the comparisons of looks that failed
-    'turns: while k < kept {
-        let reach = so_far.reach;
-        let look = look_ahead(pattern, trace, way, survivors, kept, k, reach);
-        if look.whole {
-            let found = so_far.found;
-            list_block(survivors, k, positions, found);
-            so_far = Progress {
-                reach: reach + BLOCK,
-                spent: so_far.spent + look.made,
-                found: found + BLOCK,
-            };
-            k += BLOCK;
-            continue 'turns;
-        }
-        looked += look.made;
-        let to = smaller(kept, k + MANY);
-        so_far = steady_some(
-            pattern,
-            trace,
-            way,
-            survivors,
-            kept,
-            k,
-            to,
-            so_far,
-            positions,
-        );
-        k = to;
+    let mut wasted: u32 = 0;
+    while k < kept {
+        let turn = steady_turn(pattern, trace, way, survivors, kept, k, so_far, positions);
+        let end = turn.end;
+        so_far = end;
+        k = turn.next;
+        wasted += turn.wasted;
     }
     Swept {
         spent: so_far.spent,
-        made: so_far.spent + looked,
+        made: so_far.spent + wasted,
         found: so_far.found,
     }
 }

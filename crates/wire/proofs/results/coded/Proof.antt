@@ -1,7 +1,7 @@
 -- `coded` meets its contract.
 -- Assumes nothing.
 use native.Mathlib.Omega.{arith}
-use Rattle.wire.proofs.Numbers.{number-small, coded-of}
+use Rattle.wire.proofs.Numbers.{number-range, coded-of}
 use borrow.Author.Needs.{needs}
 use Rattle.wire.proofs.results.coded.Statement.{statement}
 use Rattle.wire.proofs.results.coded.Tie as tie
@@ -16,10 +16,10 @@ capped-requires : tie.Need-capped-requires
 capped-requires c κs = search needs
 
 mul-result : tie.Need-mul-result
-mul-result c = omega (arith, number-small (c .before .before .before .args .why))
+mul-result c = omega (arith, number-range (c .before .before .before .args .why) .1)
 
 add-result : tie.Need-add-result
-add-result c = omega (arith, number-small (c .before .before .before .args .why))
+add-result c = omega (arith, number-range (c .before .before .before .args .why) .1)
 
 returns : tie.Need-returns
 returns c = coded-of _ (c .before .before .number .ensures) (c .before .place .ensures) (c .capped .ensures)
