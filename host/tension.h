@@ -34,7 +34,7 @@ extern "C" {
 #define TENSION_COUNT_WINDOWS 0   /* N: windows of the trace */
 #define TENSION_COUNT_DUELS 1     /* D: duels fought */
 #define TENSION_COUNT_SURVIVORS 2 /* S: windows that survived them */
-#define TENSION_COUNT_SWEEP 3     /* W: comparisons of the sweep */
+#define TENSION_COUNT_SWEEP 3     /* W: comparisons of the sweep, as the rules count them */
 #define TENSION_COUNT_FOUND 4     /* R: positions listed */
 #define TENSION_COUNTS 5
 

@@ -40,9 +40,9 @@ pub record OwnFirst (P : List ℤ) (wi : List ℕ) : Type 0 where
   pub own : (a : ℕ) → a < length P → getD wi a 0 ≡ entry (witnessI P a)
 
 -- window x and a later window y of the trace
-pub record Meetable (P : List ℤ) (wi wj codes : List ℕ) (T : List ℤ) (x y : ℕ) : Type 0 where
+pub record Meetable (P : List ℤ) (wi wj olders newers : List ℕ) (T : List ℤ) (x y : ℕ) : Type 0 where
   pub own : OwnWitnesses P wi wj
-  pub coded : Coded P wi wj codes (length P)
+  pub coded : Coded P wi wj olders newers (length P)
   pub later : x < y
   pub inside : y + length P ≤ length T
 

@@ -22,7 +22,7 @@ ghost use lib.ListN.{length};
 ghost use Rattle.order.specs.Sizes.{windowsOf, traceLimit};
 ghost use Rattle.order.specs.Duels.{duel as duelOf, meets};
 ghost use Rattle.search.specs.Asked.{Duelable, Meetable, Duels};
-ghost use Rattle.search.specs.Codes.{bothCodes, Coded};
+ghost use Rattle.search.specs.Codes.{ownCode, Coded};
 ghost use Rattle.search.specs.Courses.{Steady};
 ghost use Rattle.search.specs.Stacks.{DuelsOf};
 
@@ -48,16 +48,17 @@ fn duel(
     a: Offset,
     i: Place,
     j: Place,
-    codes: u8,
+    older: u8,
+    newer: u8,
 ) -> Meeting
-    requires { ⌜ Duelable (now pattern) (now trace) (y .0) (a .0) (i .0) (j .0) × (codes ≡ bothCodes (now pattern) (a .0) (i .0) (j .0)) ⌝ }
+    requires { ⌜ Duelable (now pattern) (now trace) (y .0) (a .0) (i .0) (j .0) × (older ≡ ownCode (now pattern) (a .0) (i .0) (j .0)) × (newer ≡ ownCode (now pattern) 0 (i .0) (j .0)) ⌝ }
     ensures { λ r. ⌜ r ≡ duelOf (now (pattern .entry)) (now (trace .entry)) (y .0) (a .0) (i .0) (j .0) ⌝ }
 {
     let seen = code_at(trace, y, i, j);
-    if seen == codes / 4 {
+    if seen == older {
         return Meeting::NewerFalls;
     }
-    if seen == codes % 4 {
+    if seen == newer {
         return Meeting::OlderFalls;
     }
     Meeting::BothFall // it suits neither
@@ -68,12 +69,13 @@ fn meet(
     pattern: &[i32],
     witness_i: &[u16],
     witness_j: &[u16],
-    codes: &[u8],
+    olders: &[u8],
+    newers: &[u8],
     trace: &[i32],
     x: Window,
     y: Window,
 ) -> Meeting
-    requires { ⌜ Meetable (now pattern) (now «witness_i») (now «witness_j») (now codes) (now trace) (x .0) (y .0) ⌝ }
+    requires { ⌜ Meetable (now pattern) (now «witness_i») (now «witness_j») (now olders) (now newers) (now trace) (x .0) (y .0) ⌝ }
     ensures { λ r. ⌜ r ≡ meets (now (pattern .entry)) (now (trace .entry)) (x .0) (y .0) ⌝ }
 {
     let a = y.0 - x.0;
@@ -92,7 +94,8 @@ fn meet(
         Offset(a),
         Place(wide16(i)),
         Place(wide16(j)),
-        codes[a],
+        olders[a],
+        newers[a],
     )
 }
 
@@ -101,12 +104,13 @@ fn duel_all(
     pattern: &[i32],
     witness_i: &[u16],
     witness_j: &[u16],
-    codes: &[u8],
+    olders: &[u8],
+    newers: &[u8],
     trace: &[i32],
     windows: usize,
     survivors: &mut [u32],
 ) -> Duelled
-    requires { ⌜ Duels (now pattern) (now «witness_i») (now «witness_j») (now trace) windows (now survivors) × Coded (now pattern) (now «witness_i») (now «witness_j») (now codes) (length (now pattern)) ⌝ }
+    requires { ⌜ Duels (now pattern) (now «witness_i») (now «witness_j») (now trace) windows (now survivors) × Coded (now pattern) (now «witness_i») (now «witness_j») (now olders) (now newers) (length (now pattern)) ⌝ }
     ensures { λ r. ⌜ DuelsOf (now (pattern .entry)) (now (trace .entry)) windows (now (survivors .entry)) (now (survivors .exit)) (r .kept) (r .fought) ⌝ }
 {
     let mut kept: usize = 0;
@@ -124,7 +128,8 @@ fn duel_all(
                 pattern,
                 witness_i,
                 witness_j,
-                codes,
+                olders,
+                newers,
                 trace,
                 Window(x),
                 Window(arriving),
@@ -182,13 +187,15 @@ pub(crate) fn duel_windows(
     requires { ⌜ Duels (now pattern) (now «witness_i») (now «witness_j») (now trace) windows (now survivors) ⌝ }
     ensures { λ r. ⌜ DuelsOf (now (pattern .entry)) (now (trace .entry)) windows (now (survivors .entry)) (now (survivors .exit)) (r .kept) (r .fought) ⌝ }
 {
-    let mut codes = [0u8; PATTERN_LIMIT];
-    write_codes(pattern, witness_i, witness_j, &mut codes);
+    let mut olders = [0u8; PATTERN_LIMIT];
+    let mut newers = [0u8; PATTERN_LIMIT];
+    write_codes(pattern, witness_i, witness_j, &mut olders, &mut newers);
     duel_all(
         pattern,
         witness_i,
         witness_j,
-        &codes,
+        &olders,
+        &newers,
         trace,
         windows,
         survivors,

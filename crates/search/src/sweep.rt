@@ -1,9 +1,9 @@
 // The sweep: the survivors are tested in ascending order, place by place, and none is tested at a sample of the trace that an
 // earlier one has passed. A survivor that passes all its places is listed.
 //
-// Follows docs/RULES.md, "Sweep" (Jargalsaikhan 2022, section 3, counted from zero). E only rises and each survivor fails at
-// most once, and each test that passes or fails makes at most two comparisons, so the sweep makes at most 2(n + S), and spends by the
-// rules' count what it makes. Callers hand over the pattern's own tables and its survivors.
+// Follows docs/RULES.md, "Sweep" (Jargalsaikhan 2022, section 3, counted from zero). E only rises, each survivor fails at most once,
+// and a test makes at most two comparisons, so the sweep makes at most 2(n + S); W, the rules' count, is just what it makes. Patterns that
+// go one way throughout have a sweep of their own (steady.rt). Callers hand over the pattern's own tables and its survivors.
 
 use order::Place;
 use order::Tested;

@@ -1,46 +1,52 @@
--- `code_between` meets its contract: the samples' bits stand for the samples.
+-- `code_between` meets its contract: the machine's two tests tell how the samples compare.
 -- Assumes nothing.
-use mathlib.Core.Path.{_∙_, ap, ap₂}
+use denote.Ref.{now}
+use lib.Signed.{leZ, ltZ}
+use mir.Syntax.{w32}
+use mir.Val.{toZ, ofZ}
+use Rattle.order.specs.Sizes.{at}
+use Rattle.search.proofs.CodeLaws.{two-bytes, told-by-tests}
 use borrow.Author.Needs.{needs, sfits-of}
-use mir.Facts.{toZ-ofZ}
-use Rattle.order.specs.Relations.{rel}
-use Rattle.search.specs.Codes.{code}
 use Rattle.search.proofs.codes.code_between.Statement.{statement}
 use Rattle.search.proofs.codes.code_between.Tie as tie
 
-mul-compare : tie.Need-mul-compare
-mul-compare c = search needs
+mul-a : tie.Need-mul-a
+mul-a c = search needs
 
-shared-slice-copy-out-compare : tie.Need-shared-slice-copy-out-compare
-shared-slice-copy-out-compare c = search needs
+shared-slice-copy-out-a : tie.Need-shared-slice-copy-out-a
+shared-slice-copy-out-a c = search needs
 
-mul-compare-2 : tie.Need-mul-compare-2
-mul-compare-2 c = search needs
+mul-b : tie.Need-mul-b
+mul-b c = search needs
 
-shared-slice-copy-out-compare-2 : tie.Need-shared-slice-copy-out-compare-2
-shared-slice-copy-out-compare-2 c = search needs
+shared-slice-copy-out-b : tie.Need-shared-slice-copy-out-b
+shared-slice-copy-out-b c = search needs
 
-compare-requires : tie.Need-compare-requires
-compare-requires c κs = search needs
+cast-result : tie.Need-cast-result
+cast-result c = search needs
 
-code-requires : tie.Need-code-requires
-code-requires c κs = search needs
+cast-result-2 : tie.Need-cast-result-2
+cast-result-2 c = search needs
+
+add-result : tie.Need-add-result
+add-result c =
+    let v = now (c .before .before .args .v) in
+    let a = toZ w32 (ofZ w32 (at v (c .before .before .args .s))) in
+    let b = toZ w32 (ofZ w32 (at v (c .before .before .args .t))) in
+    record { fits = two-bytes (leZ b a) (ltZ b a) }
 
 returns : tie.Need-returns
-returns c = (
-  c .code .ensures .0 ∙ ap code (c .before .compare .ensures ∙
-      ap₂ rel (toZ-ofZ (sfits-of (c .before .before .before .compare-arg .given))) (toZ-ofZ (sfits-of (c .before .before .compare-arg2 .given)))),
-  c .code .ensures .1,
-)
+returns c = told-by-tests (sfits-of (c .before .a .given)) (sfits-of (c .b .given))
 
 pub code-between-spec : {M : Type 1} → statement M
 code-between-spec =
     tie.close
     (tie.spec
-    mul-compare
-    shared-slice-copy-out-compare
-    mul-compare-2
-    shared-slice-copy-out-compare-2
-    compare-requires
-    code-requires
+    mul-a
+    shared-slice-copy-out-a
+    mul-b
+    shared-slice-copy-out-b
+    cast-result
+    cast-result-2
+    add-result
     returns)

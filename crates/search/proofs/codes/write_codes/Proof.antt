@@ -1,4 +1,4 @@
--- `write_codes` meets its contract. The loop's invariant: the offsets passed are written. The measure is the offsets left.
+-- `write_codes` meets its contract. The loop's invariant: the offsets passed are written in both lists. The measure is the offsets left.
 -- Assumes nothing.
 use Prim.Native.Nat.{_-_}
 use mathlib.Core.Path.{_≡_, refl, _∙_}
@@ -11,33 +11,46 @@ use Rattle.search.proofs.codes.write_codes.Statement.{statement}
 use Rattle.search.proofs.codes.write_codes.Tie as tie
 
 abbrev Inv-loop : tie.InvT-loop
-Inv-loop pattern witness-i witness-j codes₀ a₀ a-end codes a = (a-end ≡ length pattern) × (length codes ≡ length codes₀) × Coded pattern witness-i witness-j codes a
+Inv-loop pattern witness-i witness-j olders₀ newers₀ a₀ a-end olders newers a =
+    (a-end ≡ length pattern) × (length olders ≡ length olders₀) × (length newers ≡ length newers₀) × Coded pattern witness-i witness-j olders newers a
 
 abbrev μ-loop : tie.MeasureT-loop
-μ-loop pattern witness-i witness-j codes₀ a₀ a-end codes a = a-end - a
+μ-loop pattern witness-i witness-j olders₀ newers₀ a₀ a-end olders newers a = a-end - a
 
 loop-holds : tie.Need-loop-holds Inv-loop μ-loop
-loop-holds c = (refl, refl, none-coded _ _ _ _ (c .before .before .before .pre .1))
+loop-holds c = (refl, refl, refl, none-coded _ _ _ _ _ (c .before .before .before .before .pre .1) (c .before .before .before .before .pre .2))
 
-mul-codes-of : tie.Need-mul-codes-of Inv-loop μ-loop
-mul-codes-of c = search needs
+mul-i : tie.Need-mul-i Inv-loop μ-loop
+mul-i c = search needs
 
-shared-slice-read-codes-of : tie.Need-shared-slice-read-codes-of Inv-loop μ-loop
-shared-slice-read-codes-of c = search needs
+shared-slice-read-i : tie.Need-shared-slice-read-i Inv-loop μ-loop
+shared-slice-read-i c = search needs
 
-mul-codes-of-2 : tie.Need-mul-codes-of-2 Inv-loop μ-loop
-mul-codes-of-2 c = search needs
+mul-j : tie.Need-mul-j Inv-loop μ-loop
+mul-j c = search needs
 
-shared-slice-read-codes-of-2 : tie.Need-shared-slice-read-codes-of-2 Inv-loop μ-loop
-shared-slice-read-codes-of-2 c = search needs
+shared-slice-read-j : tie.Need-shared-slice-read-j Inv-loop μ-loop
+shared-slice-read-j c = search needs
 
-codes-of-requires : tie.Need-codes-of-requires Inv-loop μ-loop
-codes-of-requires c κs = witness-inside _ (c .before .before .before .before .before .before .before .pre .0) (c .before .before .loop-test .taken)
+entry-code-requires : tie.Need-entry-code-requires Inv-loop μ-loop
+entry-code-requires c κs = witness-inside _ (c .before .before .before .before .before .before .before .before .pre .0) (c .before .before .loop-test .taken)
 
-slice-write-codes : tie.Need-slice-write-codes Inv-loop μ-loop
-slice-write-codes c =
-    let l = c .before .before .before .before .loop .inv .2 .long in
+slice-write-olders : tie.Need-slice-write-olders Inv-loop μ-loop
+slice-write-olders c =
+    let l = c .before .before .before .before .loop .inv .3 .olders-long in
     let t = c .before .before .before .loop-test .taken in
+    omega arith
+
+entry-code-requires-2 : tie.Need-entry-code-requires-2 Inv-loop μ-loop
+entry-code-requires-2 c κs =
+    λ f.
+    let w = witness-inside _ (c .before .before .before .before .before .before .before .before .before .pre .0) (c .before .before .before .loop-test .taken) f in
+    (omega arith, omega arith)
+
+slice-write-newers : tie.Need-slice-write-newers Inv-loop μ-loop
+slice-write-newers c =
+    let l = c .before .before .before .before .before .loop .inv .3 .newers-long in
+    let t = c .before .before .before .before .loop-test .taken in
     omega arith
 
 add-a : tie.Need-add-a Inv-loop μ-loop
@@ -48,14 +61,18 @@ loop-less c = search needs
 
 loop-again : tie.Need-loop-again Inv-loop μ-loop
 loop-again c =
-    let i = c .before .before .before .before .loop .inv in
-    (i .0, length-set (c .before .before .before .before .loop .codes) (c .before .before .before .before .loop .a) (c .codes-of .result) ∙ i .1, one-coded (i .2) (c .before .before .before .loop-test .taken) (c .codes-of .ensures))
+    let l = c .before .before .before .before .before .loop in
+    let i = l .inv in
+    (i .0, length-set (l .olders) (l .a) (c .before .entry-code .result) ∙ i .1, length-set (l .newers) (l .a) (c .entry-code2 .result) ∙ i .2, one-coded (i .3) (c .before .before .before .before .loop-test .taken) (c .before .entry-code .ensures) (c .entry-code2 .ensures))
 
 same-length : tie.Need-same-length Inv-loop μ-loop
 same-length c = c .before .loop .inv .1
 
+same-length-2 : tie.Need-same-length-2 Inv-loop μ-loop
+same-length-2 c = c .before .loop .inv .2
+
 returns : tie.Need-returns Inv-loop μ-loop
-returns c = all-coded (c .before .loop .inv .2) (c .loop-test .left)
+returns c = all-coded (c .before .loop .inv .3) (c .loop-test .left)
 
 pub write-codes-spec : {M : Type 1} → statement M
 write-codes-spec =
@@ -64,14 +81,17 @@ write-codes-spec =
     Inv-loop
     μ-loop
     loop-holds
-    mul-codes-of
-    shared-slice-read-codes-of
-    mul-codes-of-2
-    shared-slice-read-codes-of-2
-    codes-of-requires
-    slice-write-codes
+    mul-i
+    shared-slice-read-i
+    mul-j
+    shared-slice-read-j
+    entry-code-requires
+    slice-write-olders
+    entry-code-requires-2
+    slice-write-newers
     add-a
     loop-less
     loop-again
     same-length
+    same-length-2
     returns)

@@ -12,18 +12,18 @@ use Rattle.search.proofs.duels.duel_all.Statement.{statement}
 use Rattle.search.proofs.duels.duel_all.Tie as tie
 
 abbrev Inv-loop : tie.InvT-loop
-Inv-loop pattern witness-i witness-j codes trace windows survivors kept₀ fought₀ y arriving kept fought =
+Inv-loop pattern witness-i witness-j olders newers trace windows survivors kept₀ fought₀ y arriving kept fought =
     Looking pattern trace survivors arriving kept₀ fought₀ kept fought
 
 abbrev μ-loop : tie.MeasureT-loop
-μ-loop pattern witness-i witness-j codes trace windows survivors kept₀ fought₀ y arriving kept fought = kept
+μ-loop pattern witness-i witness-j olders newers trace windows survivors kept₀ fought₀ y arriving kept fought = kept
 
 abbrev Inv-windows : tie.InvT-windows
-Inv-windows pattern witness-i witness-j codes trace windows survivors₀ kept₀ fought₀ y₀ survivors kept fought y =
+Inv-windows pattern witness-i witness-j olders newers trace windows survivors₀ kept₀ fought₀ y₀ survivors kept fought y =
     Standing pattern trace windows survivors₀ survivors kept fought y
 
 abbrev μ-windows : tie.MeasureT-windows
-μ-windows pattern witness-i witness-j codes trace windows survivors₀ kept₀ fought₀ y₀ survivors kept fought y = windows - y
+μ-windows pattern witness-i witness-j olders newers trace windows survivors₀ kept₀ fought₀ y₀ survivors kept fought y = windows - y
 
 -- the windows of the trace are few
 few-windows : (c : tie.Start Inv-loop μ-loop Inv-windows μ-windows) → c .args .windows ≤ 65537
@@ -54,7 +54,7 @@ meet-requires : tie.Need-meet-requires Inv-loop μ-loop Inv-windows μ-windows
 meet-requires c κs =
     let l = c .before .before .before in
     let w = l .before .before in
-    let s = w .before .before .before .before .before in
+    let s = w .before .before .before .before .before .before in
     let f = l .loop .inv .fewer in
     let x = c .wide32 .ensures .0 in
     let below = kept-below (w .windows .inv) (l .loop .kept - 1) (omega arith) in
@@ -75,7 +75,7 @@ sub-kept : tie.Need-sub-kept Inv-loop μ-loop Inv-windows μ-windows
 sub-kept c = search needs
 
 add-fought : tie.Need-add-fought Inv-loop μ-loop Inv-windows μ-windows
-add-fought c = omega (arith, few-windows (c .before .before .before .before .before .before .before .before .before .before .before .before .before))
+add-fought c = omega (arith, few-windows (c .before .before .before .before .before .before .before .before .before .before .before .before .before .before))
 
 loop-less : tie.Need-loop-less Inv-loop μ-loop Inv-windows μ-windows
 loop-less c = search needs
@@ -88,7 +88,7 @@ enum-told-3 : tie.Need-enum-told-3 Inv-loop μ-loop Inv-windows μ-windows
 enum-told-3 c = search needs
 
 add-fought-2 : tie.Need-add-fought-2 Inv-loop μ-loop Inv-windows μ-windows
-add-fought-2 c = omega (arith, few-windows (c .before .before .before .before .before .before .before .before .before .before .before .before .before))
+add-fought-2 c = omega (arith, few-windows (c .before .before .before .before .before .before .before .before .before .before .before .before .before .before))
 
 enum-told-4 : tie.Need-enum-told-4 Inv-loop μ-loop Inv-windows μ-windows
 enum-told-4 c = search needs
@@ -97,7 +97,7 @@ sub-kept-2 : tie.Need-sub-kept-2 Inv-loop μ-loop Inv-windows μ-windows
 sub-kept-2 c = search needs
 
 add-fought-3 : tie.Need-add-fought-3 Inv-loop μ-loop Inv-windows μ-windows
-add-fought-3 c = omega (arith, few-windows (c .before .before .before .before .before .before .before .before .before .before .before .before .before))
+add-fought-3 c = omega (arith, few-windows (c .before .before .before .before .before .before .before .before .before .before .before .before .before .before))
 
 enum-told-5 : tie.Need-enum-told-5 Inv-loop μ-loop Inv-windows μ-windows
 enum-told-5 c = search needs
@@ -107,7 +107,7 @@ enum-told-6 c = search needs
 
 -- where the breaks meet, the arrival has settled
 settled : (c : tie.Joined1 Inv-loop μ-loop Inv-windows μ-windows) →
-    Settled (now (c .before .before .before .before .before .before .before .before .args .pattern)) (now (c .before .before .before .before .before .before .before .before .args .trace)) (c .before .before .before .windows .survivors) (c .before .before .before .windows .y) (c .before .before .before .windows .kept) (c .before .before .before .windows .fought)
+    Settled (now (c .before .before .before .before .before .before .before .before .before .args .pattern)) (now (c .before .before .before .before .before .before .before .before .before .args .trace)) (c .before .before .before .windows .survivors) (c .before .before .before .windows .y) (c .before .before .before .windows .kept) (c .before .before .before .windows .fought)
     (c .if1 .kept) (c .if1 .fought) (c .if1 .end)
 settled c =
     let i = c .before .loop .inv in
@@ -130,7 +130,7 @@ windows-again c =
 -- the entry that the window goes to
 room : (c : tie.After-enum-told5 Inv-loop μ-loop Inv-windows μ-windows) → c .before .before .if1 .kept < length (c .before .before .before .before .before .windows .survivors)
 room c =
-    let s = c .before .before .before .before .before .before .before .before .before .before in
+    let s = c .before .before .before .before .before .before .before .before .before .before .before in
     let t = settled (c .before .before) in
     let f = t .fewer in
     let h = c .before .before .before .before .windows-test .taken in
@@ -141,11 +141,11 @@ room c =
     omega arith
 
 cast-survivors : tie.Need-cast-survivors Inv-loop μ-loop Inv-windows μ-windows
-cast-survivors c = omega (arith, few-windows (c .before .before .before .before .before .before .before .before .before .before))
+cast-survivors c = omega (arith, few-windows (c .before .before .before .before .before .before .before .before .before .before .before))
 
 mul-survivors : tie.Need-mul-survivors Inv-loop μ-loop Inv-windows μ-windows
 mul-survivors c =
-    let s = c .before .before .before .before .before .before .before .before .before .before .before in
+    let s = c .before .before .before .before .before .before .before .before .before .before .before .before in
     let t = settled (c .before .before .before) in
     let f = t .fewer in
     let i = c .before .before .before .before .before .before .windows .inv in
@@ -159,7 +159,7 @@ slice-write-survivors c = room (c .before)
 
 add-kept : tie.Need-add-kept Inv-loop μ-loop Inv-windows μ-windows
 add-kept c =
-    let s = c .before .before .before .before .before .before .before .before .before .before .before in
+    let s = c .before .before .before .before .before .before .before .before .before .before .before .before in
     let t = settled (c .before .before .before) in
     let f = t .fewer in
     let i = c .before .before .before .before .before .before .windows .inv in
@@ -173,13 +173,13 @@ windows-less-2 c = search needs
 
 windows-again-2 : tie.Need-windows-again-2 Inv-loop μ-loop Inv-windows μ-windows
 windows-again-2 c =
-    pushed-next (c .before .before .before .before .before .before .windows .inv) (c .before .before .before .before .before .windows-test .taken) (c .before .before .before .before .before .before .before .before .before .before .before .pre .0 .room) (rw (c .before .enum-told5 .given .1) at (settled (c .before .before .before)))
+    pushed-next (c .before .before .before .before .before .before .windows .inv) (c .before .before .before .before .before .windows-test .taken) (c .before .before .before .before .before .before .before .before .before .before .before .before .pre .0 .room) (rw (c .before .enum-told5 .given .1) at (settled (c .before .before .before)))
 
 same-length : tie.Need-same-length Inv-loop μ-loop Inv-windows μ-windows
 same-length c = c .before .windows .inv .long
 
 returns : tie.Need-returns Inv-loop μ-loop Inv-windows μ-windows
-returns c = all-arrived (c .before .windows .inv) (c .windows-test .left) (c .before .before .before .before .before .before .pre .0 .number)
+returns c = all-arrived (c .before .windows .inv) (c .windows-test .left) (c .before .before .before .before .before .before .before .pre .0 .number)
 
 pub duel-all-spec : {M : Type 1} → statement M
 duel-all-spec =

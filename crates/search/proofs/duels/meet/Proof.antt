@@ -4,7 +4,7 @@ use Prim.Native.Nat.{_-_}
 use mathlib.Core.Path.{refl, sym, _∙_, ap₂}
 use native.Mathlib.Omega.{arith}
 use denote.Ref.{now}
-use Rattle.search.specs.Codes.{bothCodes}
+use Rattle.search.specs.Codes.{ownCode}
 use Rattle.search.proofs.MeetingByTable.{far-agree, by-offset, none-agrees, some-duels, duelable, meeting-told}
 use borrow.Author.Needs.{needs}
 use Rattle.search.proofs.duels.meet.Statement.{statement}
@@ -15,7 +15,7 @@ sub-a c = search needs
 
 returns : tie.Need-returns
 returns c =
-    let s = c .before .before .before .before .before .before in
+    let s = c .before .before .before .before .before .before .before in
     sym (far-agree (now (s .args .pattern)) (now (s .args .trace)) (s .args .x .0) (s .args .y .0) (c .if1 .taken))
 
 mul-i : tie.Need-mul-i
@@ -26,7 +26,7 @@ shared-slice-read-i c = search needs
 
 returns-2 : tie.Need-returns-2
 returns-2 c =
-    let s = c .before .before .before .before .before .before .before .before in
+    let s = c .before .before .before .before .before .before .before .before .before in
     none-agrees (s .pre .own .limit) (by-offset (now (s .args .trace)) (s .args .x .0) (s .args .y .0) (s .args .y .0 - s .args .x .0) (s .pre .own) refl (c .before .before .if1 .left)) (c .if2 .taken)
 
 mul-j : tie.Need-mul-j
@@ -43,25 +43,35 @@ wide16-requires-2 c κs = search needs
 
 shared-slice-read-duel : tie.Need-shared-slice-read-duel
 shared-slice-read-duel c =
-    let l = c .before .before .before .before .before .before .before .before .before .before .before .before .pre .coded .long in
+    let l = c .before .before .before .before .before .before .before .before .before .before .before .before .before .pre .coded .olders-long in
     let h = c .before .before .before .before .before .before .if1 .left in
+    omega arith
+
+shared-slice-read-duel-2 : tie.Need-shared-slice-read-duel-2
+shared-slice-read-duel-2 c =
+    let l = c .before .before .before .before .before .before .before .before .before .before .before .before .before .before .pre .coded .newers-long in
+    let h = c .before .before .before .before .before .before .before .if1 .left in
     omega arith
 
 duel-requires : tie.Need-duel-requires
 duel-requires c κs =
-    let s = c .before .before .before .before .before .before .before .before .before .before .before .before in
+    let s = c .before .before .before .before .before .before .before .before .before .before .before .before .before .before in
     let a = s .args .y .0 - s .args .x .0 in
-    let f = some-duels (by-offset (now (s .args .trace)) (s .args .x .0) (s .args .y .0) (s .args .y .0 - s .args .x .0) (s .pre .own) refl (c .before .before .before .before .before .before .if1 .left)) (c .before .before .before .before .if2 .left) in (
-      duelable f refl (c .before .before .wide16 .ensures) (c .before .wide162 .ensures) (s .pre .inside),
-      s .pre .coded .told a (c .before .before .before .before .before .before .if1 .left) (c .before .before .before .before .if2 .left) ∙
-          ap₂ (bothCodes (now (s .args .pattern)) a) (sym (c .before .before .wide16 .ensures)) (sym (c .before .wide162 .ensures)),
+    let near = c .before .before .before .before .before .before .before .if1 .left in
+    let some = c .before .before .before .before .before .if2 .left in
+    let i = c .before .before .before .wide16 .ensures in
+    let j = c .before .before .wide162 .ensures in
+    let f = some-duels (by-offset (now (s .args .trace)) (s .args .x .0) (s .args .y .0) (s .args .y .0 - s .args .x .0) (s .pre .own) refl near) some in (
+      duelable f refl i j (s .pre .inside),
+      s .pre .coded .older-told a near some ∙ ap₂ (ownCode (now (s .args .pattern)) a) (sym i) (sym j),
+      s .pre .coded .newer-told a near some ∙ ap₂ (ownCode (now (s .args .pattern)) 0) (sym i) (sym j),
     )
 
 returns-3 : tie.Need-returns-3
 returns-3 c =
-    let s = c .before .before .before .before .before .before .before .before .before .before .before .before .before in
-    let f = some-duels (by-offset (now (s .args .trace)) (s .args .x .0) (s .args .y .0) (s .args .y .0 - s .args .x .0) (s .pre .own) refl (c .before .before .before .before .before .before .before .if1 .left)) (c .before .before .before .before .before .if2 .left) in
-    meeting-told f refl (c .before .before .before .wide16 .ensures) (c .before .before .wide162 .ensures) (c .duel .ensures)
+    let s = c .before .before .before .before .before .before .before .before .before .before .before .before .before .before .before in
+    let f = some-duels (by-offset (now (s .args .trace)) (s .args .x .0) (s .args .y .0) (s .args .y .0 - s .args .x .0) (s .pre .own) refl (c .before .before .before .before .before .before .before .before .if1 .left)) (c .before .before .before .before .before .before .if2 .left) in
+    meeting-told f refl (c .before .before .before .before .wide16 .ensures) (c .before .before .before .wide162 .ensures) (c .duel .ensures)
 
 pub meet-spec : {M : Type 1} → statement M
 meet-spec =
@@ -77,5 +87,6 @@ meet-spec =
     wide16-requires
     wide16-requires-2
     shared-slice-read-duel
+    shared-slice-read-duel-2
     duel-requires
     returns-3)
