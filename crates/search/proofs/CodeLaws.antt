@@ -1,5 +1,5 @@
--- Shows: relations kept in two bits each tell what the relations tell, so a duel by them is the rules' duel; and a list of them that
--- is written offset by offset.
+-- Shows: relations kept as numbers tell what the relations tell, so a duel by them is the rules' duel; lists of them that are written
+-- offset by offset; and that two tests of the machine tell the number.
 -- Assumes nothing.
 use Prim.Native.Nat.{ℕ, _+_, _≤_, _<_}
 use mathlib.Core.Path.{_≡_, refl, sym, _∙_, ap, ap₂}
@@ -28,11 +28,6 @@ use Rattle.order.proofs.Orders.{ltZ-not-leZ, leZ-total}
 use Rattle.search.proofs.MeetingByTable.{older-stands, older-falls, by-offset, some-duels}
 
 -- ---- one relation
-
-pub code-small : (r : Relation) → code r < 3
-code-small Less = omega arith
-code-small Equal = omega arith
-code-small Greater = omega arith
 
 code-same : (r s : Relation) → eqb (code r) (code s) ≡ alike r s
 code-same Less Less = refl
