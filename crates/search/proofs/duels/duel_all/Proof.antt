@@ -143,30 +143,26 @@ room c =
 cast-survivors : tie.Need-cast-survivors Inv-loop μ-loop Inv-windows μ-windows
 cast-survivors c = omega (arith, few-windows (c .before .before .before .before .before .before .before .before .before .before .before))
 
-mul-survivors : tie.Need-mul-survivors Inv-loop μ-loop Inv-windows μ-windows
-mul-survivors c =
-    let s = c .before .before .before .before .before .before .before .before .before .before .before .before in
-    let t = settled (c .before .before .before) in
+-- so many windows are kept before it that a count of them fits
+few-kept : (c : tie.After-enum-told5 Inv-loop μ-loop Inv-windows μ-windows) → c .before .before .if1 .kept ≤ 65537
+few-kept c =
+    let s = c .before .before .before .before .before .before .before .before .before .before .before in
+    let t = settled (c .before .before) in
     let f = t .fewer in
-    let i = c .before .before .before .before .before .before .windows .inv in
+    let i = c .before .before .before .before .before .windows .inv in
     let n = i .count in
     let w = i .within in
     let k = few-windows s in
     omega arith
+
+mul-survivors : tie.Need-mul-survivors Inv-loop μ-loop Inv-windows μ-windows
+mul-survivors c = omega (arith, few-kept (c .before))
 
 slice-write-survivors : tie.Need-slice-write-survivors Inv-loop μ-loop Inv-windows μ-windows
 slice-write-survivors c = room (c .before)
 
 add-kept : tie.Need-add-kept Inv-loop μ-loop Inv-windows μ-windows
-add-kept c =
-    let s = c .before .before .before .before .before .before .before .before .before .before .before .before in
-    let t = settled (c .before .before .before) in
-    let f = t .fewer in
-    let i = c .before .before .before .before .before .before .windows .inv in
-    let n = i .count in
-    let w = i .within in
-    let k = few-windows s in
-    omega arith
+add-kept c = omega (arith, few-kept (c .before))
 
 windows-less-2 : tie.Need-windows-less-2 Inv-loop μ-loop Inv-windows μ-windows
 windows-less-2 c = search needs

@@ -4,6 +4,7 @@
 use Prim.Native.Nat.{_+_, _-_, _*_, _≤_}
 use mathlib.Core.Path.{_∙_}
 use native.Mathlib.Omega.{arith}
+use denote.Ref.{now}
 use lib.ListN.{length}
 use Rattle.search.specs.Sweeps.{SweptTo}
 use Rattle.search.proofs.SweepSteps.{none-swept, from-here, from-there, all-swept, rows-number, rows-few}
@@ -44,20 +45,27 @@ steady-turn-requires c κs =
     let p = l .inv .2 in
     (record { steady = s .pre .steady; rows = s .pre .rows; room = omega arith }, c .before .loop-test .taken, from-here (l .inv .0))
 
-add-wasted : tie.Need-add-wasted Inv-loop μ-loop
-add-wasted c =
-    let s = c .before .before .before .before .before .before .before .before .before .before .before .before .before .before .before in
-    let l = c .before .before .before .before .before .before .before .loop in
-    let i = l .inv .1 in
-    let r = l .inv .0 .reached in
-    let w = l .inv .0 .within in
+-- what is made by the time of a turn is within the bound, and the bound is a small number
+few-made : (c : tie.At-loop Inv-loop μ-loop) →
+    let a = c .before .before .before .before .before .before .before .before .args in
+    (c .loop .so-far .spent + c .loop .wasted ≤ length (now (a .trace)) + 2 * a .kept) × (length (now (a .trace)) + 2 * a .kept ≤ 196610)
+few-made c =
+    let s = c .before .before .before .before .before .before .before .before in
+    let i = c .loop .inv .1 in
+    let r = c .loop .inv .0 .reached in
+    let w = c .loop .inv .0 .within in
     let n = s .pre .rows .trace in
     let m = rows-few (s .pre .rows) in
+    (omega arith, omega arith)
+
+add-wasted : tie.Need-add-wasted Inv-loop μ-loop
+add-wasted c =
+    let f = few-made (c .before .before .before .before .before .before .before) in
     let t = c .before .before .before .before .steady-turn .ensures in
     let g = t .cheap in
     let q = t .swept-on .reached in
     let v = t .swept-on .within in
-    omega arith
+    omega (arith, f .0, f .1)
 
 loop-less : tie.Need-loop-less Inv-loop μ-loop
 loop-less c =
@@ -68,41 +76,27 @@ loop-less c =
 
 loop-again : tie.Need-loop-again Inv-loop μ-loop
 loop-again c =
-    let s = c .before .before .before .before .before .before .before .before .before .before .before .before .before .before .before in
-    let l = c .before .before .before .before .before .before .before .loop in
-    let i = l .inv .1 in
-    let r = l .inv .0 .reached in
-    let w = l .inv .0 .within in
-    let n = s .pre .rows .trace in
-    let m = rows-few (s .pre .rows) in
+    let l = c .before .before .before .before .before .before .before in
+    let i = l .loop .inv .1 in
+    let f = few-made l in
     let t = c .before .before .before .before .steady-turn .ensures in
     let g = t .cheap in
-    (from-there (l .inv .0) (t .swept-on), omega arith, l .inv .2)
+    (from-there (l .loop .inv .0) (t .swept-on), omega (arith, f .0, f .1), l .loop .inv .2)
 
 add-t18 : tie.Need-add-t18 Inv-loop μ-loop
 add-t18 c =
-    let s = c .before .before .before .before .before .before .before .before .before .before in
-    let l = c .before .before .loop in
-    let i = l .inv .1 in
-    let r = l .inv .0 .reached in
-    let w = l .inv .0 .within in
-    let n = s .pre .rows .trace in
-    let m = rows-few (s .pre .rows) in
-    omega arith
+    let f = few-made (c .before .before) in
+    omega (arith, f .0, f .1)
 
 same-length : tie.Need-same-length Inv-loop μ-loop
 same-length c = c .before .before .loop .inv .0 .long ∙ c .before .before .before .before .before .steady-some .ensures .0 .long
 
 returns : tie.Need-returns Inv-loop μ-loop
 returns c =
-    let s = c .before .before .before .before .before .before .before .before .before .before in
-    let l = c .before .before .loop in
-    let i = l .inv .1 in
-    let r = l .inv .0 .reached in
-    let w = l .inv .0 .within in
-    let n = s .pre .rows .trace in
-    let m = rows-few (s .pre .rows) in
-    all-swept (from-there (c .before .before .before .before .before .steady-some .ensures .0) (l .inv .0)) (c .before .loop-test .left) (rows-number (s .pre .rows)) (omega arith)
+    let l = c .before .before in
+    let s = l .before .before .before .before .before .before .before .before in
+    let f = few-made l in
+    all-swept (from-there (c .before .before .before .before .before .steady-some .ensures .0) (l .loop .inv .0)) (c .before .loop-test .left) (rows-number (s .pre .rows)) (omega (arith, f .0, f .1))
 
 pub sweep-steady-spec : {M : Type 1} → statement M
 sweep-steady-spec =
