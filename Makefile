@@ -2,7 +2,7 @@
 PREFIX ?= /usr/local
 DESTDIR ?=
 
-.PHONY: run test cases host install compare count
+.PHONY: run test cases host install compare turns count
 
 # proves and builds the program, saying which crate is proved, and searches the recording in examples/; target/run.log has all that
 # the check says. A file tells whether it passed, since sh has only the status of a pipe's end.
@@ -28,6 +28,10 @@ host:
 # our speed beside the same algorithm in C, the KMP matcher and the naive one, as ratios in one run
 compare:
 	@bash host/compare/run.sh
+
+# our speed beside that of an earlier commit: make turns OLD=REVISION
+turns:
+	@bash host/compare/turns.sh "$(OLD)"
 
 # instructions of one call beside those of the same algorithm in C
 count:

@@ -1,6 +1,6 @@
 #!/usr/bin/env bash
 # Builds the comparison of host/compare and runs one short row of each trace: the answers of all matchers are checked and the picture
-# is drawn; times are not looked at.
+# is drawn; times are not looked at. The same rows of the archive in turns with itself.
 set -euo pipefail
 cd "$(dirname "$0")/.."
 work=$(mktemp -d)
@@ -18,4 +18,8 @@ if [ "$native" = no ]; then
   build_for_here
   short_rows
 fi
-echo "compare: the same answers from four matchers"
+object_for_here "$work/object.o"
+build_turns "$work/object.o" "$work/object.o"
+"$work/turns" --short >"$work/said"
+grep -q '^6 rows' "$work/said"
+echo "compare: the same answers from four matchers, and from the archive at four places"

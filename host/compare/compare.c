@@ -8,90 +8,29 @@
  *
  * Each time is the best of 9 samples; a sample is as many calls as take a millisecond.
  */
-#define _POSIX_C_SOURCE 200809L
 #include <math.h>
 #include <stdio.h>
 #include <stdlib.h>
 #include <string.h>
-#include <time.h>
 
 #include "../tension.h"
-#include "matchers.h"
+#include "rows.h"
 
-enum { KINDS = 6, MS = 5, NS = 3, SAMPLES = 9, COLUMNS = 3, TRACE = 65536 };
+enum { SAMPLES = 9, COLUMNS = 3 };
 
-static const char *kinds[KINDS] = {"random", "equal", "monotone", "sawtooth", "walk", "steps"};
-static const size_t ms[MS] = {4, 8, 32, 128, 1024}, ns[NS] = {64, 2048, 65536};
 static const char *columns[COLUMNS] = {"same C", "KMP", "naive"};
 
-static int32_t trace[TRACE], pattern[LONGEST];
-static struct tables tables;
+static struct tables tables, other_tables;
 static uint16_t failure[LONGEST + 1];
 static uint32_t survivors[TRACE], positions[TRACE], kept[TRACE], listed[TRACE], others[TRACE];
-static uint32_t counts[TENSION_COUNTS];
+static uint32_t counts[COUNTS];
 static struct counts same_counts;
-static size_t m, n, found_kmp, found_naive;
+static size_t found_kmp, found_naive;
 
-static uint32_t state;
-
-static uint32_t next(void)
-{
-    state = state * 1664525u + 1013904223u;
-    return state >> 8;
-}
-
-/* A trace of a kind. */
-static void fill(const char *kind, int32_t *v, size_t length)
-{
-    int32_t level = 0;
-    state = 12345;
-    for (size_t k = 0; k < length; k++) {
-        if (!strcmp(kind, "random"))
-            v[k] = (int32_t)(next() % 2000000) - 1000000;
-        else if (!strcmp(kind, "equal"))
-            v[k] = 7;
-        else if (!strcmp(kind, "monotone"))
-            v[k] = (int32_t)k;
-        else if (!strcmp(kind, "sawtooth"))
-            v[k] = (int32_t)(k % 9);
-        else if (!strcmp(kind, "walk"))
-            v[k] = level += (int32_t)(next() % 21) - 10;
-        else
-            v[k] = level += k % 16 ? 0 : (int32_t)(next() % 5) - 2;
-    }
-}
-
-static double seconds(void)
-{
-    struct timespec t;
-    clock_gettime(CLOCK_MONOTONIC, &t);
-    return (double)t.tv_sec + 1e-9 * (double)t.tv_nsec;
-}
-
-static uint64_t prepare(void)
-{
-    return tension_prepare((const uint8_t *)pattern, 4 * m, (uint8_t *)tables.low, 2 * LONGEST, (uint8_t *)tables.high,
-                           2 * LONGEST, (uint8_t *)tables.witness_i, 2 * LONGEST, (uint8_t *)tables.witness_j, 2 * LONGEST);
-}
-
-static void call_prepare(void) { prepare(); }
-
-static struct tables other_tables;
+static void call_prepare(void) { prepare_by(tension_prepare, &tables); }
 static void call_same_prepare(void) { same_prepare(pattern, m, &other_tables); }
-
-static void search_of(size_t samples)
-{
-    if (tension_search((const uint8_t *)pattern, 4 * m, (const uint8_t *)tables.low, 2 * LONGEST, (const uint8_t *)tables.high,
-                       2 * LONGEST, (const uint8_t *)tables.witness_i, 2 * LONGEST, (const uint8_t *)tables.witness_j,
-                       2 * LONGEST, (const uint8_t *)trace, 4 * samples, (uint8_t *)survivors, sizeof survivors,
-                       (uint8_t *)positions, sizeof positions, (uint8_t *)counts, sizeof counts)) {
-        fprintf(stderr, "refused\n");
-        exit(1);
-    }
-}
-
-static void call_ours(void) { search_of(n); }
-static void call_check(void) { search_of(0); }
+static void call_ours(void) { search_by(tension_search, &tables, n, survivors, positions, counts); }
+static void call_check(void) { search_by(tension_search, &tables, 0, survivors, positions, counts); }
 static void call_same(void)
 {
     if (!same_search(pattern, m, &tables, trace, n, kept, listed, &same_counts))
@@ -104,21 +43,9 @@ static void call_naive(void) { found_naive = naive_search(m, &tables, trace, n, 
 static double timed(void (*call)(void))
 {
     double best = 1e9;
-    size_t calls = 1;
-    for (;;) {
-        double start = seconds();
-        for (size_t k = 0; k < calls; k++)
-            call();
-        double took = seconds() - start;
-        if (took > 1e-3 || calls > 1u << 20)
-            break;
-        calls *= 2;
-    }
+    size_t calls = calls_for(call, 1e-3);
     for (int s = 0; s < SAMPLES; s++) {
-        double start = seconds();
-        for (size_t k = 0; k < calls; k++)
-            call();
-        double took = (seconds() - start) / (double)calls;
+        double took = a_call(call, calls);
         if (took < best)
             best = took;
     }
@@ -134,16 +61,9 @@ static void differ(const char *what)
 /* A row: its trace and pattern, and that all answers are the same. */
 static void set_up(const char *kind, size_t length, size_t samples)
 {
-    m = length;
-    n = samples;
-    fill(kind, trace, n);
-    if (m <= n)
-        memcpy(pattern, trace + (n - m) / 2, 4 * m);
-    else
-        fill(kind, pattern, m);
-    if (prepare())
-        differ("prepare refuses");
-    same_prepare(pattern, m, &other_tables);
+    make_row(kind, length, samples);
+    call_prepare();
+    call_same_prepare();
     if (memcmp(tables.low, other_tables.low, 2 * m) || memcmp(tables.high, other_tables.high, 2 * m) ||
         memcmp(tables.witness_i, other_tables.witness_i, 2 * m) || memcmp(tables.witness_j, other_tables.witness_j, 2 * m))
         differ("tables");

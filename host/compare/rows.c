@@ -1,0 +1,99 @@
+/* rows.c - the rows of the comparison. */
+#define _POSIX_C_SOURCE 200809L
+#include "rows.h"
+
+#include <stdio.h>
+#include <stdlib.h>
+#include <string.h>
+#include <time.h>
+
+const char *const kinds[KINDS] = {"random", "equal", "monotone", "sawtooth", "walk", "steps"};
+const size_t ms[MS] = {4, 8, 32, 128, 1024}, ns[NS] = {64, 2048, 65536};
+
+int32_t trace[TRACE], pattern[LONGEST];
+size_t m, n;
+
+static uint32_t state;
+
+static uint32_t next(void)
+{
+    state = state * 1664525u + 1013904223u;
+    return state >> 8;
+}
+
+/* A trace of a kind. */
+static void fill(const char *kind, int32_t *v, size_t length)
+{
+    int32_t level = 0;
+    state = 12345;
+    for (size_t k = 0; k < length; k++) {
+        if (!strcmp(kind, "random"))
+            v[k] = (int32_t)(next() % 2000000) - 1000000;
+        else if (!strcmp(kind, "equal"))
+            v[k] = 7;
+        else if (!strcmp(kind, "monotone"))
+            v[k] = (int32_t)k;
+        else if (!strcmp(kind, "sawtooth"))
+            v[k] = (int32_t)(k % 9);
+        else if (!strcmp(kind, "walk"))
+            v[k] = level += (int32_t)(next() % 21) - 10;
+        else
+            v[k] = level += k % 16 ? 0 : (int32_t)(next() % 5) - 2;
+    }
+}
+
+void make_row(const char *kind, size_t length, size_t samples)
+{
+    m = length;
+    n = samples;
+    fill(kind, trace, n);
+    if (m <= n)
+        memcpy(pattern, trace + (n - m) / 2, 4 * m);
+    else
+        fill(kind, pattern, m);
+}
+
+static void accepted(uint64_t answer)
+{
+    if (answer) {
+        fprintf(stderr, "refused\n");
+        exit(1);
+    }
+}
+
+void prepare_by(prepare_call *call, struct tables *t)
+{
+    accepted(call((const uint8_t *)pattern, 4 * m, (uint8_t *)t->low, 2 * LONGEST, (uint8_t *)t->high, 2 * LONGEST,
+                  (uint8_t *)t->witness_i, 2 * LONGEST, (uint8_t *)t->witness_j, 2 * LONGEST));
+}
+
+void search_by(search_call *call, const struct tables *t, size_t samples, uint32_t *survivors, uint32_t *positions,
+               uint32_t *counts)
+{
+    accepted(call((const uint8_t *)pattern, 4 * m, (const uint8_t *)t->low, 2 * LONGEST, (const uint8_t *)t->high, 2 * LONGEST,
+                  (const uint8_t *)t->witness_i, 2 * LONGEST, (const uint8_t *)t->witness_j, 2 * LONGEST, (const uint8_t *)trace,
+                  4 * samples, (uint8_t *)survivors, 4 * TRACE, (uint8_t *)positions, 4 * TRACE, (uint8_t *)counts, 4 * COUNTS));
+}
+
+static double seconds(void)
+{
+    struct timespec t;
+    clock_gettime(CLOCK_MONOTONIC, &t);
+    return (double)t.tv_sec + 1e-9 * (double)t.tv_nsec;
+}
+
+double a_call(void (*call)(void), size_t calls)
+{
+    double start = seconds();
+    for (size_t k = 0; k < calls; k++)
+        call();
+    return (seconds() - start) / (double)calls;
+}
+
+size_t calls_for(void (*call)(void), double least)
+{
+    size_t calls = 1;
+    while (calls <= 1u << 20 && a_call(call, calls) * (double)calls <= least)
+        calls *= 2;
+    return calls;
+}
