@@ -10,13 +10,13 @@ use lib.ListN.{length, take, drop, replicate, length-append, length-replicate, l
 use lib.Seq.{take-at, length-take-le, drop-drop}
 use Rattle.order.specs.Sizes.{unused, windowsOf}
 use Rattle.order.specs.Duels.{Stack, duelled, duels, survivors}
-use Rattle.order.specs.Sweeping.{positions}
+use Rattle.order.specs.Sweeping.{sweepCost, positions}
 use Rattle.order.specs.Written.{countsOf, over, filled}
 use Rattle.order.proofs.Dueling.{duels-and-survivors}
 use Rattle.order.proofs.SweepLaws.{sweep-fails, sweep-lists-same}
 use Rattle.search.specs.Stacks.{DuelsOf}
 use Rattle.search.specs.Sweeps.{SweepOf}
-use Rattle.search.specs.Asked.{SurvivorsOf, PositionsOf, SearchedOf}
+use Rattle.search.specs.Asked.{SearchedOf}
 use Rattle.search.proofs.StackLaws.{length-top, reverse-top}
 
 -- the list, then "unused" up to entry n − 1, then the old content
@@ -35,6 +35,12 @@ written-out l before after k n e number h beyond w =
     sym (filled-over l before n (omega arith))
 
 -- ---- the duels
+
+-- what the duels leave, written out
+pub record SurvivorsOf (P T : List ℤ) (before after : List ℕ) (kept fought : ℕ) : Type 0 where
+  pub number : kept ≡ length (survivors P T)
+  pub fought-is : fought ≡ duels P T
+  pub written : after ≡ over (filled (survivors P T) (windowsOf (length P) (length T))) before
 
 module _ {P T : List ℤ} {windows : ℕ} {before after : List ℕ} {kept fought : ℕ} (d : DuelsOf P T windows before after kept fought) where
   pub kept-number : kept ≡ length (survivors P T)
@@ -62,6 +68,12 @@ module _ {P T : List ℤ} {windows : ℕ} {before after : List ℕ} {kept fought
       }
 
 -- ---- the sweep
+
+-- what the sweep leaves, written out
+pub record PositionsOf (P T : List ℤ) (before after : List ℕ) (spent found : ℕ) : Type 0 where
+  pub spent-is : spent ≡ sweepCost P T
+  pub number : found ≡ length (positions P T)
+  pub written : after ≡ over (filled (positions P T) (windowsOf (length P) (length T))) before
 
 pub found-number : {P T : List ℤ} {kept : ℕ} {before after : List ℕ} {spent made found : ℕ} → SweepOf P T kept before after spent made found → found ≤ length after → found ≡ length (positions P T)
 found-number {after = after} {found = found} s h = sym (length-take-le found after h) ∙ ap length (s .listed)

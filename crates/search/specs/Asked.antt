@@ -9,8 +9,8 @@ use Rattle.order.specs.Relations.{rel}
 use Rattle.order.specs.Witnesses.{witnessI, witnessJ}
 use Rattle.order.specs.Written.{over, countsOf, filled}
 use Rattle.order.specs.declared.relation.Relation.{Relation}
-use Rattle.order.specs.Duels.{duels, survivors}
-use Rattle.order.specs.Sweeping.{sweepCost, positions}
+use Rattle.order.specs.Duels.{survivors}
+use Rattle.order.specs.Sweeping.{positions}
 use Rattle.order.specs.declared.steps.Counts.{Counts}
 use Rattle.tables.specs.Asked.{OwnNeighbours}
 use Rattle.search.specs.Codes.{Coded}
@@ -88,25 +88,6 @@ pub record SteadySweep (P T : List ℤ) (way : Relation) (buffer : List ℕ) (ke
   pub steady : Steady P way
   pub rows : Kept P T buffer kept
   pub room : kept ≤ length before
-
--- what the duels leave, written out
-pub record SurvivorsOf (P T : List ℤ) (before after : List ℕ) (kept fought : ℕ) : Type 0 where
-  pub number : kept ≡ length (survivors P T)
-  pub fought-is : fought ≡ duels P T
-  pub written : after ≡ over (filled (survivors P T) (windowsOf (length P) (length T))) before
-
--- the survivors in their buffer, and room for a position of each window
-pub record Listable (P : List ℤ) (low high : List ℕ) (T : List ℤ) (buffer : List ℕ) (kept windows : ℕ) (before : List ℕ) : Type 0 where
-  pub sweeps : Sweeps P low high T buffer kept before
-  pub number : windows ≡ windowsOf (length P) (length T)
-  pub room : windows ≤ length before
-  pub few : kept ≤ windows
-
--- what the sweep leaves, written out
-pub record PositionsOf (P T : List ℤ) (before after : List ℕ) (spent found : ℕ) : Type 0 where
-  pub spent-is : spent ≡ sweepCost P T
-  pub number : found ≡ length (positions P T)
-  pub written : after ≡ over (filled (positions P T) (windowsOf (length P) (length T))) before
 
 -- everything that a search checks before it stores
 pub record Searchable (P : List ℤ) (low high wi wj : List ℕ) (T : List ℤ) (windows survivors positions : ℕ) : Type 0 where

@@ -23,7 +23,7 @@ ghost use lib.ListN.{length};
 ghost use Rattle.order.specs.Sizes.{windowsOf};
 ghost use Rattle.order.specs.Refusals.{searchVerdict};
 ghost use Rattle.tables.specs.Lengths.{lengthsBy};
-ghost use Rattle.search.specs.Asked.{Duels, SurvivorsOf, Sweeps, Listable, PositionsOf, Searchable, SearchedOf};
+ghost use Rattle.search.specs.Asked.{Duels, Sweeps, Searchable, SearchedOf};
 ghost use Rattle.search.specs.Courses.{Chosen};
 ghost use Rattle.search.specs.Stacks.{DuelsOf};
 ghost use Rattle.search.specs.Sweeps.{SweepOf};
@@ -87,33 +87,6 @@ fn keep_windows(
     }
 }
 
-// The duels, and "unused" after the survivors.
-fn find_survivors(
-    pattern: &[i32],
-    witness_i: &[u16],
-    witness_j: &[u16],
-    trace: &[i32],
-    windows: usize,
-    course: Course,
-    survivors: &mut [u32],
-) -> Duelled
-    requires { ⌜ Duels (now pattern) (now «witness_i») (now «witness_j») (now trace) windows (now survivors) × Chosen (now pattern) course ⌝ }
-    ensures { λ r. ⌜ SurvivorsOf (now (pattern .entry)) (now (trace .entry)) (now (survivors .entry)) (now (survivors .exit)) (r .kept) (r .fought) ⌝ }
-{
-    let end = keep_windows(
-        pattern,
-        witness_i,
-        witness_j,
-        trace,
-        windows,
-        course,
-        survivors,
-    );
-    let kept = end.kept;
-    fill_unused(survivors, kept, windows);
-    end
-}
-
 // The sweep, the pattern's way.
 fn sweep_windows(
     pattern: &[i32],
@@ -134,37 +107,7 @@ fn sweep_windows(
     }
 }
 
-// The sweep, and "unused" after the positions.
-fn list_positions(
-    pattern: &[i32],
-    low: &[u16],
-    high: &[u16],
-    trace: &[i32],
-    survivors: &[u32],
-    kept: usize,
-    windows: usize,
-    course: Course,
-    positions: &mut [u32],
-) -> Swept
-    requires { ⌜ Listable (now pattern) (now low) (now high) (now trace) (now survivors) kept windows (now positions) × Chosen (now pattern) course ⌝ }
-    ensures { λ r. ⌜ PositionsOf (now (pattern .entry)) (now (trace .entry)) (now (positions .entry)) (now (positions .exit)) (r .spent) (r .found) ⌝ }
-{
-    let end = sweep_windows(
-        pattern,
-        low,
-        high,
-        trace,
-        survivors,
-        kept,
-        course,
-        positions,
-    );
-    let found = end.found;
-    fill_unused(positions, found, windows);
-    end
-}
-
-// The search itself, of what was checked.
+// The search itself, of what was checked: the duels, then the sweep, and "unused" after each one's list.
 fn run(
     pattern: &[i32],
     low: &[u16],
@@ -180,7 +123,7 @@ fn run(
     ensures { λ r. ⌜ SearchedOf (now (pattern .entry)) (now (trace .entry)) (now (survivors .entry)) (now (positions .entry)) (now (survivors .exit)) (now (positions .exit)) r ⌝ }
 {
     let course = course_of(pattern, witness_i);
-    let duelled = find_survivors(
+    let duelled = keep_windows(
         pattern,
         witness_i,
         witness_j,
@@ -190,18 +133,19 @@ fn run(
         survivors,
     );
     let kept = duelled.kept;
-    let swept = list_positions(
+    fill_unused(survivors, kept, windows);
+    let swept = sweep_windows(
         pattern,
         low,
         high,
         trace,
         survivors,
         kept,
-        windows,
         course,
         positions,
     );
     let found = swept.found;
+    fill_unused(positions, found, windows);
     Counts {
         windows: windows as u32,
         duels: duelled.fought,
