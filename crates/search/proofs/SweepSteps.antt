@@ -215,10 +215,10 @@ module _ {P T : List ℤ} {kept : ℕ} {before after : List ℕ} {k reach spent 
             i .state;
       }
 
-pub all-swept : {P T : List ℤ} {kept : ℕ} {before after : List ℕ} {k reach spent made found : ℕ} → SweptTo P T kept before after k reach spent found → kept ≤ k → kept ≡ length (survivors P T)
-    → made ≤ 2 * (length T + kept) → SweepOf P T kept before after spent made found
+pub all-swept : {P T : List ℤ} {kept : ℕ} {before after : List ℕ} {k reach spent wasted found : ℕ} → SweptTo P T kept before after k reach spent found → kept ≤ k → kept ≡ length (survivors P T)
+    → spent + wasted ≤ 2 * (length T + kept) → SweepOf P T kept before after spent wasted found
 unfolding sweepAll sweepCost positions
-all-swept {P} {T} {kept} {before} {after} {k} {reach} {spent} {made} {found} i h number few =
+all-swept {P} {T} {kept} {before} {after} {k} {reach} {spent} {wasted} {found} i h number few =
     record {
       cost-is = ap (λ (s : Swept). s .total) done;
       bound = few;

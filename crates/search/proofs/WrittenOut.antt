@@ -75,7 +75,7 @@ pub record PositionsOf (P T : List ℤ) (before after : List ℕ) (spent found :
   pub number : found ≡ length (positions P T)
   pub written : after ≡ over (filled (positions P T) (windowsOf (length P) (length T))) before
 
-pub found-number : {P T : List ℤ} {kept : ℕ} {before after : List ℕ} {spent made found : ℕ} → SweepOf P T kept before after spent made found → found ≤ length after → found ≡ length (positions P T)
+pub found-number : {P T : List ℤ} {kept : ℕ} {before after : List ℕ} {spent wasted found : ℕ} → SweepOf P T kept before after spent wasted found → found ≤ length after → found ≡ length (positions P T)
 found-number {after = after} {found = found} s h = sym (length-take-le found after h) ∙ ap length (s .listed)
 
 -- entries that a shorter front leaves, a longer one leaves too
@@ -84,10 +84,10 @@ drop-further a b k n h e =
     let more : k + (n - k) ≡ n = omega arith in
     ap (λ j. drop j a) (sym more) ∙ sym (drop-drop (n - k) k a) ∙ ap (drop (n - k)) e ∙ drop-drop (n - k) k b ∙ ap (λ j. drop j b) more
 
-pub positions-out : {P T : List ℤ} {kept windows : ℕ} {before after end : List ℕ} {spent made found : ℕ} → SweepOf P T kept before after spent made found
+pub positions-out : {P T : List ℤ} {kept windows : ℕ} {before after end : List ℕ} {spent wasted found : ℕ} → SweepOf P T kept before after spent wasted found
     → windows ≡ windowsOf (length P) (length T) → windows ≤ length before → kept ≤ windows
     → end ≡ take found after ++ (replicate (windows - found) unused ++ drop windows after) → PositionsOf P T before end spent found
-positions-out {P} {T} {kept} {windows} {before} {after} {end} {spent} {made} {found} s e h k w =
+positions-out {P} {T} {kept} {windows} {before} {after} {end} {spent} {wasted} {found} s e h k w =
     let f = s .few in
     let l = s .same-length in
     let n = found-number s (omega arith) in

@@ -4,6 +4,6 @@ pub mod Codes
 pub mod Courses
 pub mod Asked
 pub mod Stacks
-pub mod Sweeps
 pub mod Runs
+pub mod Sweeps
 pub mod SearchPromise

@@ -25,9 +25,18 @@ pub record RunOf (P T : List ℤ) (buffer : List ℕ) (kept k reach windows tota
   pub beside : (i : ℕ) → i < windows → getD buffer (k + i) 0 ≡ x + i
   pub passes : (i : ℕ) → i < windows → testOf P (drop (x + i) T) (length P - 1) ≡ Passed each
 
--- what a look tells: a block that passes at what the look made, and in no case more comparisons than survivors that are left
+-- there is a block to look at: of the 64 survivors from survivor k on the last starts 63 samples after the first, and the tests have come
+-- to the first's last place
+pub record BlockAhead (P : List ℤ) (buffer : List ℕ) (kept k reach : ℕ) : Type 0 where
+  pub within : k + 64 ≤ kept
+  pub apart : getD buffer (k + 63) 0 ≡ getD buffer k 0 + 63
+  pub last : reach + 1 ≡ getD buffer k 0 + length P
+
+-- what a look tells: a block that passes at what the look made; where there is one with something to compare that is 64, and in no case
+-- more than there are survivors left
 pub record LookOf (P T : List ℤ) (buffer : List ℕ) (kept k reach : ℕ) (whole : Bool) (made : ℕ) : Type 0 where
   pub passing : whole ≡ true → RunOf P T buffer kept k reach 64 made
+  pub looked : BlockAhead P buffer kept k reach → 1 < length P → made ≡ 64
   pub block : made ≤ 64
   pub ahead : k + made ≤ kept
 

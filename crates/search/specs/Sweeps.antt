@@ -3,11 +3,13 @@ use Prim.Native.Nat.{ℕ, _+_, _-_, _*_, _≤_, _<_, max}
 use mathlib.Core.Path.{_≡_}
 use mathlib.Core.List.{List, [], _∷_, _++_}
 use mathlib.Core.Bool.{Bool, cond}
+use mathlib.Core.Logic.{_⊎_}
 use lib.IntN.{ℤ}
 use lib.ListN.{length, take, drop}
 use Rattle.order.specs.PlaceTest.{cost}
 use Rattle.order.specs.Duels.{survivors}
 use Rattle.order.specs.Sweeping.{swept, tests, testsOf, sweepAll, sweptBy, sweepCost, positions}
+use Rattle.search.specs.Runs.{BlockAhead}
 
 pub record SweptOne (P T : List ℤ) (x from before reach spent : ℕ) (whole : Bool) : Type 0 where
   pub result : (l : List ℕ) → tests cost (testsOf P T) x (x + length P - from) from before l ≡ swept reach spent (l ++ cond whole (x ∷ []) [])
@@ -31,16 +33,31 @@ pub record SweptTo (P T : List ℤ) (kept : ℕ) (before after : List ℕ) (k re
   pub state : sweepAll cost (testsOf P T) (length P) (drop k (survivors P T)) (swept reach spent (take found after)) ≡ sweptBy cost P T
 
 -- a turn of the sweep for a steady pattern has gone from survivor k to survivor k', with `wasted` comparisons of a look that failed: no
--- more than one for each sample passed and two for each survivor done
-pub record TurnOf (P T : List ℤ) (kept : ℕ) (before after : List ℕ) (k reach spent k' reach' spent' found' wasted : ℕ) : Type 0 where
+-- more than one for each sample passed and two for each survivor done. Where there is a block to look at, either it passed at what it is
+-- charged or its comparisons are wasted
+pub record TurnOf (P T : List ℤ) (buffer : List ℕ) (kept : ℕ) (before after : List ℕ) (k reach spent k' reach' spent' found' wasted : ℕ) : Type 0 where
   pub swept-on : SweptTo P T kept before after k' reach' spent' found'
   pub onward : k < k'
   pub cheap : spent' + wasted + (reach + 2 * k) ≤ spent + (reach' + 2 * k')
+  pub looked : BlockAhead P buffer kept k reach → 1 < length P → ((k' ≡ k + 64) × (spent' ≡ spent + 64)) ⊎ (wasted ≡ 64)
 
--- all have been swept: `spent` is W, and `made` is the number of comparisons that it took, at most 2(n + S)
-pub record SweepOf (P T : List ℤ) (kept : ℕ) (before after : List ℕ) (spent made found : ℕ) : Type 0 where
+-- such a sweep has come to survivor k, after one survivor or none by itself and then turn by turn, and all its turns have wasted so much
+pub data Turned (P T : List ℤ) (buffer : List ℕ) (kept : ℕ) : ℕ → ℕ → ℕ → ℕ → Type 0 where
+  first : {before after : List ℕ} {k reach spent found : ℕ} → SweptTo P T kept before after k reach spent found → k ≤ 1 → Turned P T buffer kept k reach spent 0
+  turn : {before after : List ℕ} {k reach spent wasted k' reach' spent' found' more : ℕ} → Turned P T buffer kept k reach spent wasted
+      → TurnOf P T buffer kept before after k reach spent k' reach' spent' found' more → Turned P T buffer kept k' reach' spent' (wasted + more)
+
+-- and has come to the end
+pub record TurnedAll (P T : List ℤ) (buffer : List ℕ) (kept spent wasted : ℕ) : Type 0 where
+  pub k : ℕ
+  pub reach : ℕ
+  pub done : kept ≤ k
+  pub turned : Turned P T buffer kept k reach spent wasted
+
+-- all have been swept: `spent` is W, and with what was wasted on looks that failed it is at most 2(n + S)
+pub record SweepOf (P T : List ℤ) (kept : ℕ) (before after : List ℕ) (spent wasted found : ℕ) : Type 0 where
   pub cost-is : spent ≡ sweepCost P T
-  pub bound : made ≤ 2 * (length T + kept)
+  pub bound : spent + wasted ≤ 2 * (length T + kept)
   pub listed : take found after ≡ positions P T
   pub few : found ≤ kept
   pub beyond : drop kept after ≡ drop kept before

@@ -99,7 +99,7 @@ fn sweep_windows(
     positions: &mut [u32],
 ) -> Swept
     requires { ⌜ Sweeps (now pattern) (now low) (now high) (now trace) (now survivors) kept (now positions) × Chosen (now pattern) course ⌝ }
-    ensures { λ r. ⌜ SweepOf (now (pattern .entry)) (now (trace .entry)) kept (now (positions .entry)) (now (positions .exit)) (r .spent) (r .made) (r .found) ⌝ }
+    ensures { λ r. ⌜ SweepOf (now (pattern .entry)) (now (trace .entry)) kept (now (positions .entry)) (now (positions .exit)) (r .spent) (r .wasted) (r .found) ⌝ }
 {
     match course {
         Course::Steady(way) => sweep_steady(pattern, trace, way, survivors, kept, positions),

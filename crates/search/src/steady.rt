@@ -24,7 +24,7 @@ ghost use Rattle.order.specs.EntryTest.{told};
 ghost use Rattle.search.specs.Asked.{Kept, Steadily, SteadySweep};
 ghost use Rattle.search.specs.Courses.{Steady};
 ghost use Rattle.search.specs.Runs.{GoesOn, LookOf, listedRun};
-ghost use Rattle.search.specs.Sweeps.{Climbed, SweptTo, TurnOf, SweepOf};
+ghost use Rattle.search.specs.Sweeps.{Climbed, SweptTo, TurnOf, TurnedAll, SweepOf};
 
 // The windows of a block.
 const BLOCK: usize = 64;
@@ -221,7 +221,7 @@ fn steady_turn(
     positions: &mut [u32],
 ) -> Turn
     requires { ⌜ SteadySweep (now pattern) (now trace) way (now survivors) kept (now positions) × (k < kept) × SweptTo (now pattern) (now trace) kept (now positions) (now positions) k (before .reach) (before .spent) (before .found) ⌝ }
-    ensures { λ r. ⌜ TurnOf (now (pattern .entry)) (now (trace .entry)) kept (now (positions .entry)) (now (positions .exit)) k (before .reach) (before .spent) (r .next) (r .end .reach) (r .end .spent) (r .end .found) (r .wasted) ⌝ }
+    ensures { λ r. ⌜ TurnOf (now (pattern .entry)) (now (trace .entry)) (now (survivors .entry)) kept (now (positions .entry)) (now (positions .exit)) k (before .reach) (before .spent) (r .next) (r .end .reach) (r .end .spent) (r .end .found) (r .wasted) ⌝ }
 {
     let reach = before.reach;
     let look = look_ahead(pattern, trace, way, survivors, kept, k, reach);
@@ -267,7 +267,7 @@ pub(crate) fn sweep_steady(
     positions: &mut [u32],
 ) -> Swept
     requires { ⌜ SteadySweep (now pattern) (now trace) way (now survivors) kept (now positions) ⌝ }
-    ensures { λ r. ⌜ SweepOf (now (pattern .entry)) (now (trace .entry)) kept (now (positions .entry)) (now (positions .exit)) (r .spent) (r .made) (r .found) ⌝ }
+    ensures { λ r. ⌜ SweepOf (now (pattern .entry)) (now (trace .entry)) kept (now (positions .entry)) (now (positions .exit)) (r .spent) (r .wasted) (r .found) × TurnedAll (now (pattern .entry)) (now (trace .entry)) (now (survivors .entry)) kept (r .spent) (r .wasted) ⌝ }
 {
     let nothing = Progress {
         reach: 0,
@@ -296,7 +296,7 @@ pub(crate) fn sweep_steady(
     }
     Swept {
         spent: so_far.spent,
-        made: so_far.spent + wasted,
+        wasted,
         found: so_far.found,
     }
 }

@@ -25,10 +25,10 @@ pub(crate) struct Reached {
     pub whole: bool,
 }
 
-// What a sweep leaves: the comparisons that the rules count, those that were in fact made, and how many windows are listed.
+// What a sweep leaves: the comparisons that the rules count, those that it made besides, and how many windows are listed.
 pub(crate) struct Swept {
     pub spent: u32,
-    pub made: u32,
+    pub wasted: u32,
     pub found: usize,
 }
 
@@ -95,7 +95,7 @@ pub(crate) fn sweep_all(
     positions: &mut [u32],
 ) -> Swept
     requires { ⌜ Sweeps (now pattern) (now low) (now high) (now trace) (now survivors) kept (now positions) ⌝ }
-    ensures { λ r. ⌜ SweepOf (now (pattern .entry)) (now (trace .entry)) kept (now (positions .entry)) (now (positions .exit)) (r .spent) (r .made) (r .found) ⌝ }
+    ensures { λ r. ⌜ SweepOf (now (pattern .entry)) (now (trace .entry)) kept (now (positions .entry)) (now (positions .exit)) (r .spent) (r .wasted) (r .found) ⌝ }
 {
     let mut reach: usize = 0;
     let mut spent: u32 = 0;
@@ -118,7 +118,7 @@ pub(crate) fn sweep_all(
     }
     Swept {
         spent,
-        made: spent,
+        wasted: 0,
         found,
     }
 }

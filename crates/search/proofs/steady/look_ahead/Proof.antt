@@ -37,7 +37,9 @@ add-last : tie.Need-add-last
 add-last c = search needs
 
 returns : tie.Need-returns
-returns c = no-block _ _ _ _ _ _ (c .before .before .before .before .pre .2)
+returns c =
+    let t = c .if1 .taken in
+    no-block _ _ _ _ _ _ (c .before .before .before .before .pre .2) (λ b. let w = b .within in absurd (omega arith))
 
 mul-wide32-2 : tie.Need-mul-wide32-2
 mul-wide32-2 c = search needs
@@ -55,7 +57,11 @@ add-if2 : tie.Need-add-if2
 add-if2 c = search needs
 
 returns-2 : tie.Need-returns-2
-returns-2 c = no-block _ _ _ _ _ _ (c .before .before .before .before .before .before .before .pre .2)
+returns-2 c =
+    let t = c .if2 .taken in
+    let x = c .before .before .before .before .wide32 .ensures .0 in
+    let y = c .before .wide322 .ensures .0 in
+    no-block _ _ _ _ _ _ (c .before .before .before .before .before .before .before .pre .2) (λ b. t (y ∙ b .apart ∙ sym (ap (λ x. x + 63) x)))
 
 add-if3 : tie.Need-add-if3
 add-if3 c = search needs
@@ -64,7 +70,11 @@ add-if3-2 : tie.Need-add-if3-2
 add-if3-2 c = search needs
 
 returns-3 : tie.Need-returns-3
-returns-3 c = no-block _ _ _ _ _ _ (c .before .before .before .before .before .before .before .before .pre .2)
+returns-3 c =
+    let s = c .before .before .before .before .before .before .before .before in
+    let t = c .if3 .taken in
+    let x = c .before .before .before .before .before .wide32 .ensures .0 in
+    no-block _ _ _ _ _ _ (s .pre .2) (λ b. t (b .last ∙ sym (ap (λ x. x + length (now (s .args .pattern))) x)))
 
 returns-4 : tie.Need-returns-4
 returns-4 c =
@@ -72,6 +82,7 @@ returns-4 c =
     let far = c .before .before .before .before .before .if1 .left in
     record {
       passing = λ e. free-block (s .pre .1) (s .args .k) _ 63 refl far (apart (c .before)) (at-last (c .before)) (c .if4 .taken);
+      looked = λ b many. let one = c .if4 .taken in absurd (omega (arith, one));
       block = omega arith;
       ahead = omega arith;
     }
@@ -98,6 +109,7 @@ returns-5 c =
     let many = c .before .if4 .left in
     record {
       passing = λ e. stepped-block (s .pre .1) (s .args .k) _ 63 refl far (apart (c .before .before)) (s .pre .0) (omega (arith, many)) l (omega (arith, many)) (c .goes-on .ensures e);
+      looked = λ b many. refl;
       block = omega arith;
       ahead = omega arith;
     }

@@ -3,6 +3,7 @@
 -- Assumes nothing.
 use Prim.Native.Nat.{_+_, _≤_}
 use mathlib.Core.Path.{_∙_, ap}
+use mathlib.Core.Logic.{inl, inr}
 use native.Mathlib.Omega.{arith}
 use denote.Ref.{now}
 use lib.ListN.{length}
@@ -67,8 +68,14 @@ same-length c = ap length (c .before .before .before .before .list-block .ensure
 
 returns : tie.Need-returns
 returns c =
-    let q = c .before .before .before .before .before .before .before .look-ahead .ensures .block in
-    record { swept-on = rw (c .before .before .before .before .list-block .ensures) (block-swept (c .before .before .before .before .before .before)); onward = omega arith; cheap = omega arith }
+    let a = c .before .before .before .before .before .before .before .look-ahead .ensures in
+    let q = a .block in
+    record {
+      swept-on = rw (c .before .before .before .before .list-block .ensures) (block-swept (c .before .before .before .before .before .before));
+      onward = omega arith;
+      cheap = omega arith;
+      looked = λ b many. let e = a .looked b many in inl (omega arith, omega arith);
+    }
 
 add-smaller : tie.Need-add-smaller
 add-smaller c = search needs
@@ -96,7 +103,7 @@ returns-2 c =
     let e = c .before .before .steady-some .ensures in
     let g = e .1 in
     let k = c .before .before .before .before .smaller .ensures in
-    record { swept-on = e .0; onward = omega arith; cheap = omega arith }
+    record { swept-on = e .0; onward = omega arith; cheap = omega arith; looked = λ b many. inr (a .looked b many) }
 
 pub steady-turn-spec : {M : Type 1} → statement M
 steady-turn-spec =

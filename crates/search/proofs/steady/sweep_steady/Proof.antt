@@ -6,7 +6,7 @@ use mathlib.Core.Path.{_∙_}
 use native.Mathlib.Omega.{arith}
 use denote.Ref.{now}
 use lib.ListN.{length}
-use Rattle.search.specs.Sweeps.{SweptTo}
+use Rattle.search.specs.Sweeps.{SweptTo, Turned, first, turn}
 use Rattle.search.proofs.SweepSteps.{none-swept, from-here, from-there, all-swept, rows-number, rows-few}
 use borrow.Author.Needs.{needs}
 use Rattle.search.proofs.steady.sweep_steady.Statement.{statement}
@@ -14,7 +14,7 @@ use Rattle.search.proofs.steady.sweep_steady.Tie as tie
 
 abbrev Inv-loop : tie.InvT-loop
 Inv-loop pattern trace way survivors kept positions₀ k₀ so-far₀ wasted₀ positions k so-far wasted =
-    SweptTo pattern trace kept positions₀ positions k (so-far .reach) (so-far .spent) (so-far .found) × (so-far .spent + wasted ≤ so-far .reach + 2 * k) × (kept ≤ length positions₀)
+    SweptTo pattern trace kept positions₀ positions k (so-far .reach) (so-far .spent) (so-far .found) × (so-far .spent + wasted ≤ so-far .reach + 2 * k) × (kept ≤ length positions₀) × Turned pattern trace survivors kept k (so-far .reach) (so-far .spent) wasted
 
 abbrev μ-loop : tie.MeasureT-loop
 μ-loop pattern trace way survivors kept positions₀ k₀ so-far₀ wasted₀ positions k so-far wasted = kept - k
@@ -35,7 +35,7 @@ loop-holds c =
     let g = e .1 in
     let l = e .0 .long in
     let r = s .pre .room in
-    (from-here (e .0), omega arith, omega arith)
+    (from-here (e .0), omega arith, omega arith, first (e .0) (omega arith))
 
 steady-turn-requires : tie.Need-steady-turn-requires Inv-loop μ-loop
 steady-turn-requires c κs =
@@ -81,22 +81,19 @@ loop-again c =
     let f = few-made l in
     let t = c .before .before .before .before .steady-turn .ensures in
     let g = t .cheap in
-    (from-there (l .loop .inv .0) (t .swept-on), omega (arith, f .0, f .1), l .loop .inv .2)
-
-add-t18 : tie.Need-add-t18 Inv-loop μ-loop
-add-t18 c =
-    let f = few-made (c .before .before) in
-    omega (arith, f .0, f .1)
+    (from-there (l .loop .inv .0) (t .swept-on), omega (arith, f .0, f .1), l .loop .inv .2, turn (l .loop .inv .3) t)
 
 same-length : tie.Need-same-length Inv-loop μ-loop
-same-length c = c .before .before .loop .inv .0 .long ∙ c .before .before .before .before .before .steady-some .ensures .0 .long
+same-length c = c .before .loop .inv .0 .long ∙ c .before .before .before .before .steady-some .ensures .0 .long
 
 returns : tie.Need-returns Inv-loop μ-loop
 returns c =
-    let l = c .before .before in
+    let l = c .before in
     let s = l .before .before .before .before .before .before .before .before in
-    let f = few-made l in
-    all-swept (from-there (c .before .before .before .before .before .steady-some .ensures .0) (l .loop .inv .0)) (c .before .loop-test .left) (rows-number (s .pre .rows)) (omega (arith, f .0, f .1))
+    let f = few-made l in (
+      all-swept (from-there (l .before .before .before .steady-some .ensures .0) (l .loop .inv .0)) (c .loop-test .left) (rows-number (s .pre .rows)) (omega (arith, f .0, f .1)),
+      record { k = _; reach = _; done = c .loop-test .left; turned = l .loop .inv .3 },
+    )
 
 pub sweep-steady-spec : {M : Type 1} → statement M
 sweep-steady-spec =
@@ -111,6 +108,5 @@ sweep-steady-spec =
     add-wasted
     loop-less
     loop-again
-    add-t18
     same-length
     returns)
