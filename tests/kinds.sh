@@ -10,7 +10,7 @@ trap 'rm -rf "$work"' EXIT
 mkdir -p "$work/crates/probe/src" "$work/target/rlib" "$work/target/stamp"
 
 # The crates come with what target/ has of them: rt compares the stamps, and proves again only what is new since then.
-for crate in order tables agreement; do
+for crate in order sizes agreement; do
   grep "^$crate:" crates.txt >>"$work/crates.txt"
   cp -R "crates/$crate" "$work/crates/"
   if [ -e "target/stamp/$crate" ]; then
@@ -18,7 +18,7 @@ for crate in order tables agreement; do
     cp -R "target/rlib/$crate.rlib" "$work/target/rlib/"
   fi
 done
-echo "probe: order tables agreement" >>"$work/crates.txt"
+echo "probe: order agreement" >>"$work/crates.txt"
 
 # probe CALL..: makes a crate with a function for each call, the first on line 1, and has it checked
 probe() {

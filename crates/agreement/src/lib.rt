@@ -3,7 +3,6 @@
 // Follows docs/RULES.md, "Agree" and "Refusals", numbers 1 to 3. Sizes are looked at first; then one entry at most is read, as it stands.
 
 mod answers;
-mod checks;
 mod windows;
 
 pub use answers::Agreement;

@@ -3,11 +3,10 @@
 // Follows docs/RULES.md, "Agree". It reads one entry at most, and takes it as it stands.
 
 use crate::answers::Agreement;
-use crate::checks::check_agree;
 use order::NONE;
 use order::Offset;
 use order::Window;
-use tables::Checked;
+use sizes::Checked;
 ghost use mathlib.Core.Path.{_≡_};
 ghost use mathlib.Core.Bool.{_||_};
 ghost use Prim.Native.Nat.{_≤_};
@@ -40,7 +39,7 @@ fn agree_at(m: usize, witness_i: &[u16], offset: Offset) -> Agreement
 pub fn agree(m: usize, witness_i: &[u16], witness_j: &[u16], x: Window, y: Window) -> Agreement
     ensures { λ r. ⌜ AgreePromise m (now («witness_i» .entry)) (now («witness_j» .entry)) (x .0) (y .0) r ⌝ }
 {
-    match check_agree(m, witness_i.len(), witness_j.len()) {
+    match sizes::for_tables(m, m, m, witness_i.len(), witness_j.len()) {
         Checked::Refused(why) => Agreement::Refused(why),
         Checked::Fine => agree_at(m, witness_i, Offset::between(x, y)),
     }

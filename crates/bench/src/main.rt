@@ -7,12 +7,16 @@
 
 use libc::STDIN_FILENO;
 use libc::STDOUT_FILENO;
+use order::INPUT_LIMIT;
 use report::Reported;
 use report::TEXT_ROOM;
 use report::report;
 
+// One byte more than is accepted.
+const INPUT_ROOM: usize = INPUT_LIMIT + 1;
+
 fn main() {
-    let mut input = [0u8; 16385];
+    let mut input = [0u8; INPUT_ROOM];
     let length = io::read_full(STDIN_FILENO, &mut input);
     let mut text = [0u8; TEXT_ROOM];
     // It is never too short: TEXT_ROOM bytes have room for every text.

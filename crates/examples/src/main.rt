@@ -2,31 +2,26 @@
 // print, the file stdout, is written by hand from docs/RULES.md, "Examples"; the counts at the limits (k), which that page doesn't
 // give, are the reference program's. Takes what the calls take, one after the other.
 
+use libc::STDOUT_FILENO;
 use order::Counts;
 use order::Refusal;
 use recording::Reading;
 use search::Searched;
+use words::wide16;
+use words::wide32;
 
 // A space and a number.
-fn number(n: u64) {
-    io::write_all(1, b" ");
-    io::print_decimal(1, n);
+fn number(n: usize) {
+    io::write_all(STDOUT_FILENO, b" ");
+    io::print_decimal(STDOUT_FILENO, n as u64);
 }
 
 fn word(text: &[u8]) {
-    io::write_all(1, text);
+    io::write_all(STDOUT_FILENO, text);
 }
 
 fn end_line() {
-    io::write_all(1, b"\n");
-}
-
-fn wide16(x: u16) -> u64 {
-    x as u64
-}
-
-fn wide32(x: u32) -> u64 {
-    x as u64
+    io::write_all(STDOUT_FILENO, b"\n");
 }
 
 fn table(name: &[u8], entries: &[u16]) {
@@ -56,23 +51,23 @@ fn windows(name: &[u8], list: &[u32], count: usize) {
 
 fn counts(c: Counts) {
     word(b" N");
-    number(c.windows as u64);
+    number(wide32(c.windows));
     word(b" D");
-    number(c.duels as u64);
+    number(wide32(c.duels));
     word(b" S");
-    number(c.survivors as u64);
+    number(wide32(c.survivors));
     word(b" W");
-    number(c.sweep as u64);
+    number(wide32(c.sweep));
     word(b" R");
-    number(c.found as u64);
+    number(wide32(c.found));
     end_line();
 }
 
 fn refusal(why: Refusal) {
     word(b" refusal");
-    number(why.number() as u64);
+    number(why.number());
     word(b" place");
-    number(why.place() as u64);
+    number(why.place());
     end_line();
 }
 
@@ -82,7 +77,7 @@ fn searched(letter: &[u8], answer: Searched) -> usize {
     match answer {
         Searched::Done(c) => {
             counts(c);
-            c.found as usize
+            wide32(c.found)
         }
         Searched::Refused(why) => {
             refusal(why);
@@ -93,20 +88,30 @@ fn searched(letter: &[u8], answer: Searched) -> usize {
 
 fn kept(answer: Searched) -> usize {
     match answer {
-        Searched::Done(c) => c.survivors as usize,
+        Searched::Done(c) => wide32(c.survivors),
         Searched::Refused(_) => 0,
     }
 }
 
-// An example with small buffers: its tables are prepared, and the trace is searched.
-fn example(letter: &[u8], pattern: &[i32], trace: &[i32]) {
-    let mut low = [0u16; 8];
-    let mut high = [0u16; 8];
-    let mut witness_i = [0u16; 8];
-    let mut witness_j = [0u16; 8];
+// Alters entry 3 of a table, if that is asked for.
+fn alter(table: &mut [u16], altered: bool) {
+    if altered {
+        if 3 < table.len() {
+            table[3] = 1;
+        }
+    }
+}
+
+// An example: the pattern's tables are prepared, one of them is altered if that is asked for, and the trace is searched.
+fn run(letter: &[u8], pattern: &[i32], trace: &[i32], altered: bool, shown: bool) {
+    let mut low = [0u16; 1025];
+    let mut high = [0u16; 1025];
+    let mut witness_i = [0u16; 1025];
+    let mut witness_j = [0u16; 1025];
     tables::prepare(pattern, &mut low, &mut high, &mut witness_i, &mut witness_j);
-    let mut survivors = [0u32; 16];
-    let mut positions = [0u32; 16];
+    alter(&mut witness_j, altered);
+    let mut survivors = [0u32; 65536];
+    let mut positions = [0u32; 65536];
     let answer = search::search(
         pattern,
         &low,
@@ -118,8 +123,15 @@ fn example(letter: &[u8], pattern: &[i32], trace: &[i32]) {
         &mut positions,
     );
     let found = searched(letter, answer);
-    windows(b"  survivors", &survivors, kept(answer));
-    windows(b"  listed", &positions, found);
+    if shown {
+        windows(b"  survivors", &survivors, kept(answer));
+        windows(b"  listed", &positions, found);
+    }
+}
+
+// Examples c to j: the answer, and both lists.
+fn example(letter: &[u8], pattern: &[i32], trace: &[i32]) {
+    run(letter, pattern, trace, false, true);
 }
 
 // Examples a and b: the four tables.
@@ -146,65 +158,11 @@ fn tables() {
 fn sizes(m: usize, n: usize) {
     let pattern = [0i32; 1025];
     let trace = [0i32; 65537];
-    let mut low = [0u16; 1025];
-    let mut high = [0u16; 1025];
-    let mut witness_i = [0u16; 1025];
-    let mut witness_j = [0u16; 1025];
-    let mut survivors = [0u32; 65536];
-    let mut positions = [0u32; 65536];
     if m <= 1025 {
         if n <= 65537 {
-            tables::prepare(
-                &pattern[0..m],
-                &mut low,
-                &mut high,
-                &mut witness_i,
-                &mut witness_j,
-            );
-            let answer = search::search(
-                &pattern[0..m],
-                &low,
-                &high,
-                &witness_i,
-                &witness_j,
-                &trace[0..n],
-                &mut survivors,
-                &mut positions,
-            );
-            searched(b"k", answer);
+            run(b"k", &pattern[0..m], &trace[0..n], false, false);
         }
     }
-}
-
-// Example m: entry 3 of one table altered.
-fn altered() {
-    let pattern = [4i32, 9, 6, 6];
-    let trace = [5i32, 8, 6, 6];
-    let mut low = [0u16; 4];
-    let mut high = [0u16; 4];
-    let mut witness_i = [0u16; 4];
-    let mut witness_j = [0u16; 4];
-    tables::prepare(
-        &pattern,
-        &mut low,
-        &mut high,
-        &mut witness_i,
-        &mut witness_j,
-    );
-    witness_j[3] = 1;
-    let mut survivors = [0u32; 4];
-    let mut positions = [0u32; 4];
-    let answer = search::search(
-        &pattern,
-        &low,
-        &high,
-        &witness_i,
-        &witness_j,
-        &trace,
-        &mut survivors,
-        &mut positions,
-    );
-    searched(b"m", answer);
 }
 
 // Example l: a recording's bytes.
@@ -214,17 +172,17 @@ fn recording_example(bytes: &[u8]) {
     match recording::read(bytes, &mut samples) {
         Reading::Done { count, first } => {
             word(b" count");
-            number(count as u64);
+            number(count);
             word(b" place");
-            number(first as u64);
+            number(first);
             end_line();
         }
         Reading::Refused(why) => refusal(why),
     }
 }
 
-fn main() {
-    tables();
+// Examples c to e: one pattern, three traces.
+fn bends() {
     example(
         b"c",
         &[4i32, 9, 6, 6],
@@ -232,22 +190,52 @@ fn main() {
     );
     example(b"d", &[4i32, 9, 6, 6], &[5i32, 5, 5, 5, 5]);
     example(b"e", &[4i32, 9, 6, 6], &[1i32, 2, 3, 4, 5]);
+}
+
+// Examples f to h: a single sample, a trace that is too short, and one that almost matches.
+fn few() {
     example(b"f", &[7i32], &[3i32, 3]);
     example(b"g", &[4i32, 9, 6, 6], &[1i32, 2, 3]);
     example(b"h", &[4i32, 9, 6, 6], &[4i32, 9, 7, 6]);
+}
+
+// Examples i and j: a rising pattern, and the largest samples there are.
+fn steep() {
     example(b"i", &[1i32, 2, 3], &[1i32, 2, 3, 4, 5]);
     example(
         b"j",
         &[-2147483648i32, 2147483647],
         &[2147483647i32, -2147483648, 0],
     );
+}
+
+// Example k.
+fn limits() {
     sizes(1, 65536);
     sizes(4, 65536);
     sizes(1024, 65536);
     sizes(1025, 65536);
     sizes(1024, 65537);
+}
+
+// Example l: no sample, a trailer cut short, and a product that does not fit 32 bits.
+fn recordings() {
     recording_example(&[0u8, 0, 0, 0, 0, 0, 0, 0, 75, 82, 69, 67]);
     recording_example(&[0u8, 0, 0, 0, 0, 0, 0, 75, 82, 69, 67]);
     recording_example(&[0u8, 0, 0, 0, 0, 0, 0, 64, 75, 82, 69, 67]);
+}
+
+// Example m: entry 3 of one table altered.
+fn altered() {
+    run(b"m", &[4i32, 9, 6, 6], &[5i32, 8, 6, 6], true, false);
+}
+
+fn main() {
+    tables();
+    bends();
+    few();
+    steep();
+    limits();
+    recordings();
     altered();
 }

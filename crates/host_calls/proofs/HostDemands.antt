@@ -17,9 +17,9 @@ use Rattle.order.proofs.Dueling.{survivors-below, duels-and-survivors}
 use Rattle.order.proofs.SweepLaws.{sweep-cost}
 use Rattle.order.proofs.Whole.{demands-hold}
 use Rattle.search.proofs.WrittenOut.{positions-few}
-use Rattle.wire.specs.Bytes.{wordsIn}
-use Rattle.wire.specs.Results.{countsList}
-use Rattle.wire.proofs.ReadBack.{Words, words-below, words-first, words-back}
+use Rattle.words.specs.Bytes.{wordsIn}
+use Rattle.host_calls.specs.Results.{countsList}
+use Rattle.words.proofs.ReadBack.{Words, words-below, words-first, words-back}
 use Rattle.host_calls.specs.HostPromises.{keptBytes, listedBytes, countBytes, keptRead, listedRead}
 
 module _ (P T : List ℤ) (limit : length T ≤ traceLimit) where

@@ -1,7 +1,7 @@
 -- Shows: lengths with room are accepted, so preparation in arrays for any pattern makes the tables; and what the call
 -- leaves meets its promise, which no second result or content of a table satisfies.
 -- Assumes nothing.
-use Prim.Native.Nat.{ℕ, zero, suc, _-_, _/_, _≤_}
+use Prim.Native.Nat.{ℕ, _-_, _/_, _≤_}
 use mathlib.Core.Path.{_≡_, refl, sym, _∙_, ap}
 use mathlib.Core.List.{List}
 use native.Mathlib.Omega.{arith}
@@ -10,24 +10,22 @@ use lib.IntN.{ℤ}
 use lib.ListN.{length, take}
 use borrow.Author.Tests.{ne-eqb, le-ltb}
 use Rattle.order.specs.declared.refusal.Refusal.{Refusal}
-use Rattle.order.specs.Sizes.{each, patternLimit, windowsOf}
+use Rattle.order.specs.Sizes.{each, patternLimit}
 use Rattle.order.specs.Neighbours.{lowTable, highTable}
 use Rattle.order.specs.Witnesses.{witnessITable, witnessJTable}
-use Rattle.order.specs.Refusals.{Verdict, accepted, refused, patternVerdict, witnessesVerdict, tablesVerdict, roomVerdict, prepareVerdict}
-use Rattle.order.specs.Written.{over}
-use Rattle.order.proofs.Lists.{length-each, windowsOf-as}
+use Rattle.order.specs.Refusals.{Verdict, accepted, refused, patternVerdict, witnessesVerdict, tablesVerdict, prepareVerdict}
+use Rattle.order.specs.Written.{over, afterVerdict}
+use Rattle.order.proofs.Lists.{length-each}
 use Rattle.tables.specs.declared.answers.Prepared.{Prepared}
-use Rattle.tables.specs.declared.fitting_lengths.Fitting.{Fitting}
-use Rattle.tables.specs.declared.fitting_lengths.Fitting.the-variants.{Fit, Refused}
-use Rattle.order.specs.Written.{afterVerdict}
-use Rattle.tables.specs.Asked.{Room}
+use Rattle.sizes.specs.declared.answers.Checked.the-variants.{Fine, Refused}
+use Rattle.sizes.specs.Lengths.{Room}
 use Rattle.tables.specs.Promises.{PreparePromise, sizesVerdict}
-use Rattle.tables.specs.Lengths.{lengthsVerdict, lengthsBy, LengthsPromise}
-use Rattle.tables.proofs.Verdicts.{prepare-room}
-use Rattle.wire.specs.Bytes.{samplesIn, bytesOf}
-use Rattle.wire.specs.Results.{codedRefusal}
-use Rattle.wire.specs.Handed.{entriesPut}
-use Rattle.wire.proofs.Handing.{over-front, entries-put}
+use Rattle.sizes.specs.Answers.{checkedBy}
+use Rattle.sizes.proofs.Verdicts.{fine-accepted, refused-why, prepare-room}
+use Rattle.words.specs.Bytes.{samplesIn, bytesOf}
+use Rattle.host_calls.specs.Results.{refusalResult}
+use Rattle.words.specs.Handed.{entriesPut}
+use Rattle.words.proofs.Handing.{over-front, entries-put}
 use Rattle.host_calls.specs.HostPromises.{HostPrepare, prepareCase}
 use Rattle.host_calls.specs.Inside.{TablesPut}
 
@@ -76,46 +74,22 @@ samples-prepared pattern t e = rw e at t
 
 -- ---- the call
 
--- a trace of no samples has no window, so the rows on the trace and its buffers refuse nothing
-lengths-of-none : (m low high wi wj : ℕ) → lengthsVerdict m low high wi wj 0 0 0 ≡ prepareVerdict m low high wi wj
-unfolding lengthsVerdict prepareVerdict patternVerdict roomVerdict
-lengths-of-none zero low high wi wj = refl
-lengths-of-none (suc m) low high wi wj =
-    let none : windowsOf (suc m) 0 ≡ 0 = omega (arith, windowsOf-as (suc m) 0) in
-    rw none refl
-
--- the verdict behind a look at the lengths
-pub fit-case : (v : Verdict) (w n : ℕ) → Fit n ≡ lengthsBy v w → (v ≡ accepted) × (n ≡ w)
-fit-case accepted w n e = (refl, cc)
-fit-case (refused why) w n e = (cc, cc)
-
-pub refused-case : (v : Verdict) (w : ℕ) (why : Refusal) → Refused why ≡ lengthsBy v w → v ≡ refused why
-refused-case accepted w why e = cc
-refused-case (refused r) w why e = cc
-
 module _ (pattern low high wi wj : List ℕ) where
   abbrev verdict : Verdict
   verdict = prepareCase pattern low high wi wj
 
-  abbrev Looked : Fitting → Type 0
-  Looked r = LengthsPromise (length pattern / 4) (length low / 2) (length high / 2) (length wi / 2) (length wj / 2) 0 0 0 r
+  pub fine-room : Fine ≡ checkedBy verdict → Room (length pattern / 4) (length low / 2) (length high / 2) (length wi / 2) (length wj / 2)
+  fine-room e = prepare-room _ _ _ _ _ (fine-accepted verdict e)
 
-  by-case : {r : Fitting} → Looked r → r ≡ lengthsBy verdict (windowsOf (length pattern / 4) 0)
-  by-case p = p .answer ∙ ap (λ v. lengthsBy v (windowsOf (length pattern / 4) 0)) (lengths-of-none (length pattern / 4) (length low / 2) (length high / 2) (length wi / 2) (length wj / 2))
-
-  pub fit-room : (n : ℕ) {r : Fitting} → Looked r → r ≡ Fit n → Room (length pattern / 4) (length low / 2) (length high / 2) (length wi / 2) (length wj / 2)
-  fit-room n p e = prepare-room _ _ _ _ _ (fit-case verdict _ n (sym e ∙ by-case p) .0)
-
-  pub prepare-put : (n : ℕ) {r : Fitting} {low' high' wi' wj' : List ℕ} → Looked r → r ≡ Fit n
-      → TablesPut (samplesIn pattern) low high wi wj low' high' wi' wj'
+  pub prepare-put : {low' high' wi' wj' : List ℕ} → Fine ≡ checkedBy verdict → TablesPut (samplesIn pattern) low high wi wj low' high' wi' wj'
       → HostPrepare pattern low high wi wj 0 low' high' wi' wj'
-  prepare-put n p e t =
-      let a : verdict ≡ accepted = fit-case verdict _ n (sym e ∙ by-case p) .0 in
+  prepare-put e t =
+      let a : verdict ≡ accepted = fine-accepted verdict e in
       record { result = rw a refl; low-after = rw a (t .low-put); high-after = rw a (t .high-put); witness-i-after = rw a (t .witness-i-put); witness-j-after = rw a (t .witness-j-put) }
 
-  pub prepare-refused : (why : Refusal) {r : Fitting} {code : ℕ} → Looked r → r ≡ Refused why → code ≡ codedRefusal why → HostPrepare pattern low high wi wj code low high wi wj
-  prepare-refused why p e c =
-      let a : verdict ≡ refused why = refused-case verdict _ why (sym e ∙ by-case p) in
+  pub prepare-refused : (why : Refusal) {result : ℕ} → Refused why ≡ checkedBy verdict → result ≡ refusalResult why → HostPrepare pattern low high wi wj result low high wi wj
+  prepare-refused why e c =
+      let a : verdict ≡ refused why = refused-why verdict why e in
       record { result = rw a c; low-after = rw a refl; high-after = rw a refl; witness-i-after = rw a refl; witness-j-after = rw a refl }
 
   -- no second result, and no other byte in a table

@@ -8,41 +8,39 @@ use mathlib.Core.List.{List, _++_}
 use mathlib.Core.Bool.{Bool, true, false, cond}
 use native.Mathlib.Omega.{arith}
 use native.Mathlib.Nat.{sub-zero}
-use lib.Dec.{eqb, ltb}
 use lib.IntN.{ℤ}
 use lib.ListN.{length, getD, take, drop, length-append, length-replicate}
 use lib.Seq.{take-at, length-take-le}
 use borrow.Author.Tests.{ne-eqb, le-ltb}
-use Rattle.order.specs.declared.refusal.Table.the-variants.{Low, High, WitnessI, WitnessJ}
 use Rattle.order.specs.declared.refusal.Refusal.{Refusal}
-use Rattle.order.specs.declared.refusal.Refusal.the-variants.{EmptyPattern, LongPattern, ShortTable, LongTrace, ShortSurvivors, ShortPositions}
 use Rattle.order.specs.declared.steps.Counts.{Counts}
 use Rattle.order.specs.Sizes.{none, place, lowest, orElse, patternLimit, traceLimit, windowsOf}
-use Rattle.order.specs.Refusals.{Verdict, accepted, refused, refuse, patternVerdict, witnessesVerdict, tablesVerdict, roomVerdict, ownVerdict, foreignAt, searchVerdict}
+use Rattle.order.specs.Refusals.{Verdict, accepted, refused, patternVerdict, witnessesVerdict, tablesVerdict, roomVerdict, ownVerdict, foreignAt, searchVerdict}
 use Rattle.order.specs.Duels.{survivors as kept-windows}
 use Rattle.order.specs.Sweeping.{positions as listed-windows}
 use Rattle.order.specs.Written.{over, filled}
 use Rattle.order.proofs.Lists.{length-each, getD-each, windowsOf-as}
 use Rattle.order.proofs.Dueling.{duels-and-survivors}
 use Rattle.search.specs.declared.answers.Searched.{Searched}
-use Rattle.tables.specs.declared.fitting_lengths.Fitting.{Fitting}
-use Rattle.tables.specs.declared.fitting_lengths.Fitting.the-variants.{Fit, Refused as Unfit}
+use Rattle.sizes.specs.declared.answers.Fitting.{Fitting}
+use Rattle.sizes.specs.declared.answers.Fitting.the-variants.{Fit, Refused as Unfit}
 use Rattle.order.specs.Written.{afterVerdict}
-use Rattle.tables.specs.Asked.{Room}
+use Rattle.sizes.specs.Lengths.{Room}
 use Rattle.search.specs.SearchPromise.{SearchPromise, searchedBy}
-use Rattle.tables.specs.Lengths.{lengthsVerdict, lengthsBy, LengthsPromise}
-use Rattle.tables.proofs.Verdicts.{pattern-passed, tables-passed}
-use Rattle.tables.proofs.Verdicts.{room-passed}
+use Rattle.sizes.specs.Answers.{fittingBy}
+use Rattle.sizes.specs.Lengths.{lengthsVerdict, LengthsPromise}
+use Rattle.order.proofs.Rows.{then-row, row-refuses}
+use Rattle.sizes.proofs.Verdicts.{fit-accepted, unfit-why, pattern-passed, tables-passed, room-passed}
+use Rattle.sizes.proofs.VerdictRows.{sizes, sizes-row, room-row}
 use Rattle.search.proofs.WrittenOut.{positions-few}
 use Rattle.search.proofs.SearchLaws.{search-ready}
-use Rattle.wire.specs.Bytes.{firstEntries, samplesIn, entriesIn, bytesOf}
-use Rattle.wire.specs.Results.{coded, codedRefusal, countsList}
-use Rattle.wire.specs.Handed.{entriesTaken, wordsPut, AnswerPut}
-use Rattle.wire.proofs.Numbers.{only-accepted}
-use Rattle.wire.proofs.Handing.{entries-taken, words-put}
+use Rattle.words.specs.Bytes.{firstEntries, samplesIn, entriesIn, bytesOf}
+use Rattle.host_calls.specs.Results.{resultOf, refusalResult, countsList}
+use Rattle.words.specs.Handed.{entriesTaken, wordsPut}
+use Rattle.host_calls.proofs.Numbers.{only-accepted}
+use Rattle.words.proofs.Handing.{entries-taken, words-put}
 use Rattle.host_calls.specs.HostPromises.{HostSearch, searchCase, keptBytes, listedBytes, countBytes}
-use Rattle.host_calls.specs.Inside.{Fits, Arrays}
-use Rattle.host_calls.proofs.PrepareLaws.{fit-case, refused-case}
+use Rattle.host_calls.specs.Inside.{Fits, Arrays, AnswerPut}
 use Rattle.host_calls.proofs.HostDemands.{counts-back, demands-back}
 
 -- ---- the search's arrays hold the host's entries
@@ -113,30 +111,16 @@ only-own P low high wi wj T s p r t a b =
     ) refl
 
 -- lengths that do not pass are refused whatever the tables hold
-stay : (b : Bool) (r why : Refusal) (x y : Verdict) → (x ≡ refused why → y ≡ refused why) → refuse b r x ≡ refused why → refuse b r y ≡ refused why
-stay true r why x y f e = e
-stay false r why x y f e = f e
-
-stays : (m l h i j n s p : ℕ) (why : Refusal) (next : Verdict) → lengthsVerdict m l h i j n s p ≡ refused why
-    → patternVerdict m (tablesVerdict m l h i j (roomVerdict m n s p next)) ≡ refused why
-unfolding lengthsVerdict patternVerdict tablesVerdict witnessesVerdict roomVerdict
-stays m l h i j n s p why next =
-    stay (eqb m 0) EmptyPattern why _ _
-    (stay (ltb patternLimit m) (LongPattern m) why _ _
-    (stay (ltb l m) (ShortTable Low) why _ _
-    (stay (ltb h m) (ShortTable High) why _ _
-    (stay (ltb i m) (ShortTable WitnessI) why _ _
-    (stay (ltb j m) (ShortTable WitnessJ) why _ _
-    (stay (ltb traceLimit n) (LongTrace n) why _ _
-    (stay (ltb s (windowsOf m n)) (ShortSurvivors (windowsOf m n)) why _ _
-    (stay (ltb p (windowsOf m n)) (ShortPositions (windowsOf m n)) why accepted next
-    (λ e. cc)))))))))
+stays : (m l h i j n s p : ℕ) (why : Refusal) (next : Verdict) → lengthsVerdict m l h i j n s p ≡ refused why → sizes m l h i j (roomVerdict m n s p next) ≡ refused why
+unfolding lengthsVerdict
+stays m l h i j n s p why next e =
+    row-refuses (λ v. sizes m l h i j (roomVerdict m n s p v)) (then-row (sizes m l h i j) (roomVerdict m n s p) (sizes-row m l h i j) (room-row m n s p)) e next
 
 -- ---- the answer in the host's buffers
 
 -- what is handed over, by the case of the verdict
 record Handed (v : Verdict) (c : Counts) (kept listed survivors positions counts : List ℕ) (r : ℕ) (survivors' positions' counts' : List ℕ) : Type 0 where
-  result : r ≡ coded v
+  result : r ≡ resultOf v
   kept-is : survivors' ≡ afterVerdict v (bytesOf 4 kept) survivors
   listed-is : positions' ≡ afterVerdict v (bytesOf 4 listed) positions
   counts-is : counts' ≡ afterVerdict v (bytesOf 4 (take (length counts / 4) (countsList c))) counts
@@ -187,7 +171,7 @@ module _ (pattern low high wi wj trace survivors positions counts : List ℕ) wh
   Lengths windows = Fits (length pattern) (length low) (length high) (length wi) (length wj) (length trace) (length survivors) (length positions) windows
 
   -- the result and the bytes are all that is to be shown of a call: what the host reads of them then meets the demands
-  promised : {r : ℕ} {survivors' positions' counts' : List ℕ} → r ≡ coded verdict → survivors' ≡ afterVerdict verdict (keptBytes P T) survivors
+  promised : {r : ℕ} {survivors' positions' counts' : List ℕ} → r ≡ resultOf verdict → survivors' ≡ afterVerdict verdict (keptBytes P T) survivors
       → positions' ≡ afterVerdict verdict (listedBytes P T) positions → counts' ≡ afterVerdict verdict (countBytes P T (length counts / 4)) counts
       → HostSearch pattern low high wi wj trace survivors positions counts r survivors' positions' counts'
   promised {r} e s p c =
@@ -206,7 +190,7 @@ module _ (pattern low high wi wj trace survivors positions counts : List ℕ) wh
       limit : verdict ≡ accepted → length T ≤ traceLimit
       limit a =
           search-ready P (entriesIn low) (entriesIn high) (entriesIn wi) (entriesIn wj) T (length survivors / 4) (length positions / 4)
-          (sym (ap (λ v. lengthsBy v (windowsOf (length P) (length T))) a)) .trace
+          (sym (ap (λ v. fittingBy v (windowsOf (length P) (length T))) a)) .trace
 
   -- the verdict on the lists that the search is given is the verdict on the host's
   same-verdict : {windows s p : ℕ} → Lengths windows → windows ≤ s → windows ≤ p
@@ -259,7 +243,7 @@ module _ (pattern low high wi wj trace survivors positions counts : List ℕ) wh
   pub search-fits : (windows : ℕ) {r : Fitting} → Looked r → r ≡ Fit windows → Lengths windows
   unfolding lengthsVerdict
   search-fits windows p e =
-      let f = fit-case _ _ windows (sym e ∙ p .answer) in
+      let f = fit-accepted _ _ (sym e ∙ p .answer) in
       let a = pattern-passed m _ (f .0) in
       let b = tables-passed m (length low / 2) (length high / 2) (length wi / 2) (length wj / 2) _ (a .2) in
       let c = room-passed m n (length survivors / 4) (length positions / 4) accepted (b .4) in
@@ -281,11 +265,11 @@ module _ (pattern low high wi wj trace survivors positions counts : List ℕ) wh
         listed-room = omega arith;
       }
 
-  pub search-refused : (why : Refusal) {r : Fitting} {code : ℕ} → Looked r → r ≡ Unfit why → code ≡ codedRefusal why
+  pub search-refused : (why : Refusal) {r : Fitting} {code : ℕ} → Looked r → r ≡ Unfit why → code ≡ refusalResult why
       → HostSearch pattern low high wi wj trace survivors positions counts code survivors positions counts
   unfolding searchVerdict
   search-refused why p e c =
-      let f = refused-case _ _ why (sym e ∙ p .answer) in
+      let f = unfit-why _ _ (sym e ∙ p .answer) in
       let v : verdict ≡ refused why =
       rw (length-each, length-each, length-each, length-each, length-each, length-each)
       (stays m (length low / 2) (length high / 2) (length wi / 2) (length wj / 2) n (length survivors / 4) (length positions / 4) why _ f) in

@@ -14,8 +14,8 @@ use Rattle.order.specs.Written.{countsOf, filled}
 use Rattle.order.specs.Demands.{Demands}
 use Rattle.order.specs.Refusals.{Verdict, prepareVerdict, searchVerdict}
 use Rattle.order.specs.Written.{afterVerdict}
-use Rattle.wire.specs.Bytes.{samplesIn, entriesIn, wordsIn, bytesOf}
-use Rattle.wire.specs.Results.{coded, countsList}
+use Rattle.words.specs.Bytes.{samplesIn, entriesIn, wordsIn, bytesOf}
+use Rattle.host_calls.specs.Results.{resultOf, countsList}
 
 -- the verdict on the numbers of whole entries
 abbrev pub prepareCase : List ℕ → List ℕ → List ℕ → List ℕ → List ℕ → Verdict
@@ -24,7 +24,7 @@ prepareCase pattern low high wi wj =
 
 -- preparation of a pattern's bytes, with tables that hold these bytes: the result r, and the tables' bytes after it
 pub record HostPrepare (pattern low high wi wj : List ℕ) (r : ℕ) (low' high' wi' wj' : List ℕ) : Type 0 where
-  pub result : r ≡ coded (prepareCase pattern low high wi wj)
+  pub result : r ≡ resultOf (prepareCase pattern low high wi wj)
   pub low-after : low' ≡ afterVerdict (prepareCase pattern low high wi wj) (bytesOf 2 (lowTable (samplesIn pattern))) low
   pub high-after : high' ≡ afterVerdict (prepareCase pattern low high wi wj) (bytesOf 2 (highTable (samplesIn pattern))) high
   pub witness-i-after : wi' ≡ afterVerdict (prepareCase pattern low high wi wj) (bytesOf 2 (witnessITable (samplesIn pattern))) wi
@@ -57,7 +57,7 @@ listedRead P T bytes = take (countsOf P T .found) (wordsIn bytes)
 -- the buffers' bytes after it. A reader finds the three demands here: result and bytes are fixed for every input, refused ones too
 -- (demand 1), and an accepted search meets `Demands` (2 and 3), said of the numbers that the host reads from its buffers
 pub record HostSearch (pattern low high wi wj trace kept listed counts : List ℕ) (r : ℕ) (kept' listed' counts' : List ℕ) : Type 0 where
-  pub result : r ≡ coded (searchCase pattern low high wi wj trace kept listed)
+  pub result : r ≡ resultOf (searchCase pattern low high wi wj trace kept listed)
   pub survivors-after : kept' ≡ afterVerdict (searchCase pattern low high wi wj trace kept listed) (keptBytes (samplesIn pattern) (samplesIn trace)) kept
   pub positions-after : listed' ≡ afterVerdict (searchCase pattern low high wi wj trace kept listed) (listedBytes (samplesIn pattern) (samplesIn trace)) listed
   pub counts-after : counts' ≡ afterVerdict (searchCase pattern low high wi wj trace kept listed) (countBytes (samplesIn pattern) (samplesIn trace) (length counts / 4)) counts

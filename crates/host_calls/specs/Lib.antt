@@ -1,3 +1,4 @@
 -- What the calls of a C host promise, on the bytes themselves, and what the functions inside ask of each other.
+pub mod Results
 pub mod HostPromises
 pub mod Inside

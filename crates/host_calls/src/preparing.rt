@@ -5,14 +5,14 @@
 // stack for the samples and the tables.
 
 use crate::reading::all_samples;
-use tables::Fitting;
-use wire::ACCEPTED;
-use wire::coded;
-use wire::put_entries;
+use crate::results::ACCEPTED;
+use crate::results::result_of;
+use sizes::Checked;
+use words::put_entries;
 ghost use Prim.Native.Nat.{_/_};
 ghost use lib.ListN.{length};
-ghost use Rattle.tables.specs.Asked.{Room};
-ghost use Rattle.wire.specs.Bytes.{samplesIn};
+ghost use Rattle.sizes.specs.Lengths.{Room};
+ghost use Rattle.words.specs.Bytes.{samplesIn};
 ghost use Rattle.host_calls.specs.HostPromises.{HostPrepare};
 ghost use Rattle.host_calls.specs.Inside.{TablesPut};
 
@@ -66,18 +66,15 @@ pub fn prepare(
 ) -> u64
     ensures { λ r. ⌜ HostPrepare (now (pattern .entry)) (now (low .entry)) (now (high .entry)) (now («witness_i» .entry)) (now («witness_j» .entry)) r (now (low .exit)) (now (high .exit)) (now («witness_i» .exit)) (now («witness_j» .exit)) ⌝ }
 {
-    match tables::lengths(
+    match sizes::for_tables(
         pattern.len() / 4,
         low.len() / 2,
         high.len() / 2,
         witness_i.len() / 2,
         witness_j.len() / 2,
-        0,
-        0,
-        0,
     ) {
-        Fitting::Refused(why) => coded(why),
-        Fitting::Fit(_) => {
+        Checked::Refused(why) => result_of(why),
+        Checked::Fine => {
             prepare_fitting(pattern, low, high, witness_i, witness_j);
             ACCEPTED
         }

@@ -2,12 +2,12 @@
 //
 // Follows docs/RULES.md, "The C entry points", Entries. One turn a sample or entry.
 
-use wire::take_entries;
-use wire::take_samples;
+use words::take_entries;
+use words::take_samples;
 ghost use mathlib.Core.Path.{_≡_};
 ghost use Prim.Native.Nat.{_/_, _≤_};
 ghost use lib.ListN.{length, take};
-ghost use Rattle.wire.specs.Bytes.{samplesIn, firstEntries};
+ghost use Rattle.words.specs.Bytes.{samplesIn, firstEntries};
 
 // All samples of a buffer.
 pub(crate) fn all_samples(bytes: &[u8], samples: &mut [i32])

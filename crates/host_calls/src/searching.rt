@@ -8,9 +8,9 @@ use crate::reading::front;
 use search::Searched;
 ghost use Prim.Native.Nat.{_/_};
 ghost use lib.ListN.{length};
-ghost use Rattle.tables.specs.Asked.{Room};
+ghost use Rattle.sizes.specs.Lengths.{Room};
 ghost use Rattle.search.specs.SearchPromise.{SearchPromise};
-ghost use Rattle.wire.specs.Bytes.{samplesIn, firstEntries};
+ghost use Rattle.words.specs.Bytes.{samplesIn, firstEntries};
 
 // Searches by a pattern's samples and the host's tables.
 fn search_by(

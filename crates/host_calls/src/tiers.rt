@@ -5,11 +5,12 @@
 // what `search::search` does and a turn for each sample and entry. Stack: 12 KB for the pattern and its tables, and for the trace
 // and the two lists up to 24 KB for 2,048 samples and 768 KB above.
 
+use crate::answering::put_answer;
 use crate::reading::all_samples;
+use crate::results::result_of;
 use crate::searching::search_samples;
-use tables::Fitting;
-use wire::coded;
-use wire::put_answer;
+use order::TRACE_LIMIT;
+use sizes::Fitting;
 ghost use Prim.Native.Nat.{_/_, _≤_};
 ghost use lib.ListN.{length};
 ghost use Rattle.host_calls.specs.HostPromises.{HostSearch};
@@ -79,9 +80,9 @@ fn search_brief(
     requires { ⌜ Fits (length (now pattern)) (length (now low)) (length (now high)) (length (now «witness_i»)) (length (now «witness_j»)) (length (now trace)) (length (now survivors)) (length (now positions)) windows ⌝ }
     ensures { λ r. ⌜ HostSearch (now (pattern .entry)) (now (low .entry)) (now (high .entry)) (now («witness_i» .entry)) (now («witness_j» .entry)) (now (trace .entry)) (now (survivors .entry)) (now (positions .entry)) (now (counts .entry)) r (now (survivors .exit)) (now (positions .exit)) (now (counts .exit)) ⌝ }
 {
-    let mut samples = [0i32; 256];
-    let mut kept = [0u32; 256];
-    let mut listed = [0u32; 256];
+    let mut samples = [0i32; BRIEF];
+    let mut kept = [0u32; BRIEF];
+    let mut listed = [0u32; BRIEF];
     search_in(
         pattern,
         low,
@@ -116,9 +117,9 @@ fn search_short(
     requires { ⌜ Fits (length (now pattern)) (length (now low)) (length (now high)) (length (now «witness_i»)) (length (now «witness_j»)) (length (now trace)) (length (now survivors)) (length (now positions)) windows ⌝ }
     ensures { λ r. ⌜ HostSearch (now (pattern .entry)) (now (low .entry)) (now (high .entry)) (now («witness_i» .entry)) (now («witness_j» .entry)) (now (trace .entry)) (now (survivors .entry)) (now (positions .entry)) (now (counts .entry)) r (now (survivors .exit)) (now (positions .exit)) (now (counts .exit)) ⌝ }
 {
-    let mut samples = [0i32; 2048];
-    let mut kept = [0u32; 2048];
-    let mut listed = [0u32; 2048];
+    let mut samples = [0i32; SMALL];
+    let mut kept = [0u32; SMALL];
+    let mut listed = [0u32; SMALL];
     search_in(
         pattern,
         low,
@@ -136,89 +137,7 @@ fn search_short(
     )
 }
 
-// A small call.
-fn search_small(
-    pattern: &[u8],
-    low: &[u8],
-    high: &[u8],
-    witness_i: &[u8],
-    witness_j: &[u8],
-    trace: &[u8],
-    survivors: &mut [u8],
-    positions: &mut [u8],
-    counts: &mut [u8],
-    windows: usize,
-) -> u64
-    requires { ⌜ length (now trace) / 4 ≤ 2048 ⌝ }
-    requires { ⌜ Fits (length (now pattern)) (length (now low)) (length (now high)) (length (now «witness_i»)) (length (now «witness_j»)) (length (now trace)) (length (now survivors)) (length (now positions)) windows ⌝ }
-    ensures { λ r. ⌜ HostSearch (now (pattern .entry)) (now (low .entry)) (now (high .entry)) (now («witness_i» .entry)) (now («witness_j» .entry)) (now (trace .entry)) (now (survivors .entry)) (now (positions .entry)) (now (counts .entry)) r (now (survivors .exit)) (now (positions .exit)) (now (counts .exit)) ⌝ }
-{
-    let n = trace.len() / 4;
-    if BRIEF < n {
-        return search_short(
-            pattern,
-            low,
-            high,
-            witness_i,
-            witness_j,
-            trace,
-            survivors,
-            positions,
-            counts,
-            windows,
-        );
-    }
-    search_brief(
-        pattern,
-        low,
-        high,
-        witness_i,
-        witness_j,
-        trace,
-        survivors,
-        positions,
-        counts,
-        windows,
-    )
-}
-
-// Up to 65,536 samples.
-fn search_long(
-    pattern: &[u8],
-    low: &[u8],
-    high: &[u8],
-    witness_i: &[u8],
-    witness_j: &[u8],
-    trace: &[u8],
-    survivors: &mut [u8],
-    positions: &mut [u8],
-    counts: &mut [u8],
-    windows: usize,
-) -> u64
-    requires { ⌜ Fits (length (now pattern)) (length (now low)) (length (now high)) (length (now «witness_i»)) (length (now «witness_j»)) (length (now trace)) (length (now survivors)) (length (now positions)) windows ⌝ }
-    ensures { λ r. ⌜ HostSearch (now (pattern .entry)) (now (low .entry)) (now (high .entry)) (now («witness_i» .entry)) (now («witness_j» .entry)) (now (trace .entry)) (now (survivors .entry)) (now (positions .entry)) (now (counts .entry)) r (now (survivors .exit)) (now (positions .exit)) (now (counts .exit)) ⌝ }
-{
-    let mut samples = [0i32; 65536];
-    let mut kept = [0u32; 65536];
-    let mut listed = [0u32; 65536];
-    search_in(
-        pattern,
-        low,
-        high,
-        witness_i,
-        witness_j,
-        trace,
-        &mut samples,
-        &mut kept,
-        &mut listed,
-        survivors,
-        positions,
-        counts,
-        windows,
-    )
-}
-
-// The search in the large arrays, whatever the trace's length.
+// Any trace: a function of its own, with the look at the lengths in it, which keeps its arrays out of the frame of small calls.
 pub fn search_large(
     pattern: &[u8],
     low: &[u8],
@@ -232,34 +151,41 @@ pub fn search_large(
 ) -> u64
     ensures { λ r. ⌜ HostSearch (now (pattern .entry)) (now (low .entry)) (now (high .entry)) (now («witness_i» .entry)) (now («witness_j» .entry)) (now (trace .entry)) (now (survivors .entry)) (now (positions .entry)) (now (counts .entry)) r (now (survivors .exit)) (now (positions .exit)) (now (counts .exit)) ⌝ }
 {
-    let n = trace.len() / 4;
-    match tables::lengths(
+    match sizes::for_search(
         pattern.len() / 4,
         low.len() / 2,
         high.len() / 2,
         witness_i.len() / 2,
         witness_j.len() / 2,
-        n,
+        trace.len() / 4,
         survivors.len() / 4,
         positions.len() / 4,
     ) {
-        Fitting::Refused(why) => coded(why),
-        Fitting::Fit(windows) => search_long(
-            pattern,
-            low,
-            high,
-            witness_i,
-            witness_j,
-            trace,
-            survivors,
-            positions,
-            counts,
-            windows,
-        ),
+        Fitting::Refused(why) => result_of(why),
+        Fitting::Fit(windows) => {
+            let mut samples = [0i32; TRACE_LIMIT];
+            let mut kept = [0u32; TRACE_LIMIT];
+            let mut listed = [0u32; TRACE_LIMIT];
+            search_in(
+                pattern,
+                low,
+                high,
+                witness_i,
+                witness_j,
+                trace,
+                &mut samples,
+                &mut kept,
+                &mut listed,
+                survivors,
+                positions,
+                counts,
+                windows,
+            )
+        }
     }
 }
 
-// Searches a trace of 4-byte samples: survivors, positions and counts of 4 bytes each are written, or nothing is.
+// The size that the trace takes.
 pub fn search(
     pattern: &[u8],
     low: &[u8],
@@ -287,7 +213,7 @@ pub fn search(
             counts,
         );
     }
-    match tables::lengths(
+    match sizes::for_search(
         pattern.len() / 4,
         low.len() / 2,
         high.len() / 2,
@@ -297,18 +223,34 @@ pub fn search(
         survivors.len() / 4,
         positions.len() / 4,
     ) {
-        Fitting::Refused(why) => coded(why),
-        Fitting::Fit(windows) => search_small(
-            pattern,
-            low,
-            high,
-            witness_i,
-            witness_j,
-            trace,
-            survivors,
-            positions,
-            counts,
-            windows,
-        ),
+        Fitting::Refused(why) => result_of(why),
+        Fitting::Fit(windows) => {
+            if BRIEF < n {
+                return search_short(
+                    pattern,
+                    low,
+                    high,
+                    witness_i,
+                    witness_j,
+                    trace,
+                    survivors,
+                    positions,
+                    counts,
+                    windows,
+                );
+            }
+            search_brief(
+                pattern,
+                low,
+                high,
+                witness_i,
+                witness_j,
+                trace,
+                survivors,
+                positions,
+                counts,
+                windows,
+            )
+        }
     }
 }

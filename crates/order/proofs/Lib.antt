@@ -18,4 +18,4 @@ pub mod Meetings
 pub mod Dueling
 pub mod SweepLaws
 pub mod Whole
-pub mod Signs
+pub mod Rows

@@ -9,10 +9,10 @@ use Rattle.order.specs.declared.refusal.Table.{Table}
 use Rattle.order.specs.declared.refusal.Table.the-variants.{Low, High, WitnessI, WitnessJ}
 use Rattle.order.specs.declared.refusal.Refusal.{Refusal}
 use Rattle.order.specs.declared.refusal.Refusal.the-variants.{EmptyPattern, LongPattern, ShortTable, LongTrace, ShortSurvivors, ShortPositions, ForeignEntry, ShortRecording, WrongMark, WrongDistance, LongDistance, ShortSamples, LongInput}
-use Rattle.order.specs.Sizes.{Spot, none, place, entry, lowest, patternLimit, traceLimit, windowsOf}
+use Rattle.order.specs.Sizes.{Spot, none, place, entry, lowest, patternLimit, traceLimit, inputLimit, windowsOf}
 use Rattle.order.specs.Neighbours.{lowOf, highOf}
 use Rattle.order.specs.Witnesses.{witnessI, witnessJ}
-use Rattle.order.specs.Recordings.{distanceBack, sampleCount, marked}
+use Rattle.order.specs.Recordings.{trailerSize, distanceBack, sampleCount, marked}
 
 abbrev pub tableNumber : Table → ℕ
 tableNumber Low = 1
@@ -48,7 +48,7 @@ placeOf (WrongMark p) = p
 placeOf (WrongDistance p) = p
 placeOf (LongDistance p) = p
 placeOf (ShortSamples n) = n
-placeOf LongInput = 16384
+placeOf LongInput = inputLimit
 
 -- what the conditions of a call come to
 pub data Verdict : Type 0 where
@@ -115,11 +115,17 @@ searchVerdict P low high wi wj T survivors positions =
     (roomVerdict (length P) (length T) survivors positions
     (ownVerdict (lowest (foreignAt P low high wi wj) (length P)))))
 
+-- 8 and 9: the bytes end with a trailer
+unfoldable pub trailerVerdict : List ℕ → Verdict → Verdict
+trailerVerdict bs next =
+    refuse (ltb (length bs) trailerSize) (ShortRecording (length bs)) (refuse (not (marked bs)) (WrongMark (length bs - 4)) next)
+
+-- 10 to 12: a trailer that begins at byte `start` points back to whole samples, within the bytes, for which there is room
+unfoldable pub pointsVerdict : ℕ → ℕ → ℕ → ℕ → Verdict
+pointsVerdict start distance count room =
+    refuse (not (eqb distance (4 * count))) (WrongDistance start)
+    (refuse (ltb start distance) (LongDistance start) (refuse (ltb room count) (ShortSamples count) accepted))
+
 -- reading: 8 to 12
 unfoldable pub readVerdict : List ℕ → ℕ → Verdict
-readVerdict bs room =
-    refuse (ltb (length bs) 12) (ShortRecording (length bs))
-    (refuse (not (marked bs)) (WrongMark (length bs - 4))
-    (refuse (not (eqb (distanceBack bs) (4 * sampleCount bs))) (WrongDistance (length bs - 12))
-    (refuse (ltb (length bs - 12) (distanceBack bs)) (LongDistance (length bs - 12))
-    (refuse (ltb room (sampleCount bs)) (ShortSamples (sampleCount bs)) accepted))))
+readVerdict bs room = trailerVerdict bs (pointsVerdict (length bs - trailerSize) (distanceBack bs) (sampleCount bs) room)

@@ -14,6 +14,10 @@ patternLimit = 1024
 abbrev pub traceLimit : ℕ
 traceLimit = 65536
 
+-- the longest input of the program, in bytes
+abbrev pub inputLimit : ℕ
+inputLimit = 16384
+
 -- a table entry that names no place, and a buffer's entry that holds no window
 abbrev pub noPlace : ℕ
 noPlace = 65535

@@ -1,6 +1,7 @@
 // Why a call was refused. One enum serves every call; of the crates, this file with specs/Refusals.antt is the only place that
 // knows the numbers. Follows docs/RULES.md, "Refusals". Each function is one look at the case.
 
+use crate::limits::INPUT_LIMIT;
 ghost use mathlib.Core.Path.{_≡_};
 ghost use Rattle.order.specs.Refusals.{tableNumber, numberOf, placeOf};
 
@@ -82,7 +83,7 @@ impl Refusal {
             Refusal::WrongDistance(at) => at,
             Refusal::LongDistance(at) => at,
             Refusal::ShortSamples(count) => count,
-            Refusal::LongInput => 16384,
+            Refusal::LongInput => INPUT_LIMIT,
         }
     }
 }

@@ -5,7 +5,6 @@
 
 mod reading;
 mod trailer;
-mod words;
 
 pub use reading::Reading;
 pub use reading::read;

@@ -1,200 +1,183 @@
-// Text in a buffer: each function puts something at a place and answers the place after it. What does not fit is left out, and
-// then the output differs from what is stored. Follows reference/README.md, "The stream of cases". A step for each byte.
+// What a call answered and what its buffers hold, in the reference's words, on standard output.
+//
+// Follows reference/README.md, "The stream of cases". A write for each word and number.
 
+use libc::STDOUT_FILENO;
+use order::Refusal;
 use order::UNUSED;
-use order::wide16;
-use order::wide32;
+use words::wide16;
+use words::wide32;
 ghost use Prim.Native.Nat.{_+_, _≤_, _<_};
 
-const GUARD16: u16 = 43690;
+// What buffers hold before a call, so that an entry which the call should have kept shows.
+pub(crate) const GUARD8: u8 = 170;
 
-const GUARD32: u32 = 2863311530;
+pub(crate) const GUARD16: u16 = 43690;
 
-pub(crate) fn put_byte(out: &mut [u8], at: usize, b: u8) -> usize {
-    if at < out.len() {
-        out[at] = b;
-        return at + 1;
-    }
-    at
-}
+pub(crate) const GUARD32: u32 = 2863311530;
 
-pub(crate) fn put_text(out: &mut [u8], at: usize, text: &[u8]) -> usize {
-    let mut next = at;
-    let mut k: usize = 0;
-    while k < text.len() {
-        next = put_byte(out, next, text[k]);
-        k += 1;
-    }
-    next
+pub(crate) const GUARD_SAMPLE: i32 = -1431655766;
+
+pub(crate) fn word(text: &[u8]) {
+    io::write_all(STDOUT_FILENO, text);
 }
 
 // A space and a number.
-pub(crate) fn put_number(out: &mut [u8], at: usize, n: usize) -> usize {
-    let mut digits = [0u8; 20];
-    let k = io::decimal(n as u64, &mut digits);
-    let next = put_byte(out, at, b' ');
-    put_text(out, next, &digits[..k])
+pub(crate) fn number(n: usize) {
+    word(b" ");
+    io::print_decimal(STDOUT_FILENO, n as u64);
 }
 
-// A run of a marked value: a space, the mark, and how often it stood there.
-fn put_run(out: &mut [u8], at: usize, mark: u8, run: usize) -> usize {
-    if run == 0 {
-        return at;
-    }
-    let mut digits = [0u8; 20];
-    let k = io::decimal(run as u64, &mut digits);
-    let mut next = put_byte(out, at, b' ');
-    next = put_byte(out, next, mark);
-    put_text(out, next, &digits[..k])
+// A line's last two numbers.
+pub(crate) fn pair(a: usize, b: usize) {
+    number(a);
+    number(b);
+    word(b"\n");
 }
 
-// An entry that ends a run: the run, and then the entry. One that goes on with the run is counted.
-fn put_entry(
-    out: &mut [u8],
-    at: usize,
-    mark: u8,
-    run: usize,
-    goes_on: bool,
-    entry: usize,
-) -> usize {
-    if goes_on {
-        return at;
-    }
-    let next = put_run(out, at, mark, run);
-    put_number(out, next, entry)
+// A refusal's number and place.
+pub(crate) fn refusal(why: Refusal) {
+    pair(why.number(), why.place());
 }
-
-fn longer(run: usize, goes_on: bool) -> usize
-    requires { ⌜ run < 18446744073709551615 ⌝ }
-    ensures { λ r. ⌜ r ≤ run + 1 ⌝ }
-{
-    if goes_on {
-        return run + 1;
-    }
-    0
-}
-
-// A table on a line of its own: its name, its entries, and runs of the guard.
-pub(crate) fn put_table(out: &mut [u8], at: usize, name: &[u8], table: &[u16]) -> usize {
-    let mut next = put_text(out, at, name);
-    let mut run: usize = 0;
-    let mut k: usize = 0;
-    while k < table.len() {
-        let guard = table[k] == GUARD16;
-        next = put_entry(out, next, b'g', run, guard, wide16(table[k]));
-        run = longer(run, guard);
-        k += 1;
-    }
-    next = put_run(out, next, b'g', run);
-    put_byte(out, next, b'\n')
-}
-
-const GUARD_SAMPLE: i32 = -1431655766;
 
 // A space and a sample, with its sign.
-fn put_integer(out: &mut [u8], at: usize, x: i32) -> usize {
+fn integer(x: i32) {
     if x < 0 {
-        let next = put_text(out, at, b" -");
-        return put_digits(out, next, lift(!x) + 1);
+        word(b" -");
+        io::print_decimal(STDOUT_FILENO, magnitude(!x) + 1);
+        return;
     }
-    put_number(out, at, lift(x))
+    number(magnitude(x) as usize);
 }
 
-fn lift(x: i32) -> usize
+// A sample that is not below 0.
+fn magnitude(x: i32) -> u64
     ensures { λ r. ⌜ r < 2147483648 ⌝ }
 {
     if x < 0 {
         return 0;
     }
-    x as usize
+    x as u64
 }
 
-fn put_digits(out: &mut [u8], at: usize, n: usize) -> usize {
-    let mut digits = [0u8; 20];
-    let k = io::decimal(n as u64, &mut digits);
-    put_text(out, at, &digits[..k])
+// The marks of a guard and of "unused", of which a run is told by its length, and of all other entries, which are told one by one.
+const GUARD: u8 = b'g';
+
+const NOTHING: u8 = b'u';
+
+const PLAIN: u8 = b' ';
+
+// The entries with one mark up to the one that is looked at.
+struct Run {
+    mark: u8,
+    length: usize,
 }
 
-// A sample that ends a run of the guard: the run, and then the sample.
-fn put_sample(out: &mut [u8], at: usize, run: usize, goes_on: bool, x: i32) -> usize {
-    if goes_on {
-        return at;
+// Tells a run that has ended.
+fn tell(run: Run) {
+    if run.mark == PLAIN {
+        return;
     }
-    let next = put_run(out, at, b'g', run);
-    put_integer(out, next, x)
+    word(b" ");
+    let mark = [run.mark];
+    word(&mark);
+    io::print_decimal(STDOUT_FILENO, run.length as u64);
 }
 
-// A list of samples on a line of its own: its name, its entries, and runs of the guard.
-pub(crate) fn put_integers(out: &mut [u8], at: usize, name: &[u8], list: &[i32]) -> usize {
-    let mut next = put_text(out, at, name);
-    let mut run: usize = 0;
-    let mut k: usize = 0;
-    while k < list.len() {
-        let guard = list[k] == GUARD_SAMPLE;
-        next = put_sample(out, next, run, guard, list[k]);
-        run = longer(run, guard);
-        k += 1;
+// The run after one more entry; where it has another mark, the run before is told.
+fn go_on(run: Run, mark: u8) -> Run
+    requires { ⌜ run .length < 18446744073709551615 ⌝ }
+    ensures { λ r. ⌜ r .length ≤ run .length + 1 ⌝ }
+{
+    if mark == run.mark {
+        return Run {
+            mark,
+            length: run.length + 1,
+        };
     }
-    next = put_run(out, next, b'g', run);
-    put_byte(out, next, b'\n')
+    tell(run);
+    Run { mark, length: 1 }
 }
 
-// What a window's entry is: the guard, "unused" or a window.
-fn mark_of(x: u32) -> u8 {
+fn end_line(run: Run) {
+    tell(run);
+    word(b"\n");
+}
+
+fn tell_entry(run: Run, entry: u16) -> Run
+    requires { ⌜ run .length < 18446744073709551615 ⌝ }
+    ensures { λ r. ⌜ r .length ≤ run .length + 1 ⌝ }
+{
+    if entry == GUARD16 {
+        return go_on(run, GUARD);
+    }
+    let next = go_on(run, PLAIN);
+    number(wide16(entry));
+    next
+}
+
+fn tell_sample(run: Run, x: i32) -> Run
+    requires { ⌜ run .length < 18446744073709551615 ⌝ }
+    ensures { λ r. ⌜ r .length ≤ run .length + 1 ⌝ }
+{
+    if x == GUARD_SAMPLE {
+        return go_on(run, GUARD);
+    }
+    let next = go_on(run, PLAIN);
+    integer(x);
+    next
+}
+
+fn tell_window(run: Run, x: u32) -> Run
+    requires { ⌜ run .length < 18446744073709551615 ⌝ }
+    ensures { λ r. ⌜ r .length ≤ run .length + 1 ⌝ }
+{
     if x == GUARD32 {
-        return b'g';
+        return go_on(run, GUARD);
     }
     if x == UNUSED {
-        return b'u';
+        return go_on(run, NOTHING);
     }
-    b' '
+    let next = go_on(run, PLAIN);
+    number(wide32(x));
+    next
 }
 
-// Where a run ends, the run.
-fn end_run(out: &mut [u8], at: usize, mark: u8, run: usize, goes_on: bool) -> usize {
-    if goes_on {
-        return at;
+// A table on a line of its own: its name and its entries.
+pub(crate) fn show_table(name: &[u8], table: &[u16]) {
+    word(name);
+    let mut run = Run {
+        mark: PLAIN,
+        length: 0,
+    };
+    for k in 0..table.len() {
+        run = tell_entry(run, table[k]);
     }
-    put_run(out, at, mark, run)
+    end_line(run);
 }
 
-// A window that is no marked value.
-fn put_window(out: &mut [u8], at: usize, mark: u8, x: u32) -> usize {
-    if mark == b' ' {
-        return put_number(out, at, wide32(x));
+// A list of samples.
+pub(crate) fn show_samples(name: &[u8], list: &[i32]) {
+    word(name);
+    let mut run = Run {
+        mark: PLAIN,
+        length: 0,
+    };
+    for k in 0..list.len() {
+        run = tell_sample(run, list[k]);
     }
-    at
+    end_line(run);
 }
 
-// The run after an entry: longer by it, begun by it, or none.
-fn run_after(run: usize, goes_on: bool, mark: u8) -> usize
-    requires { ⌜ run < 18446744073709551615 ⌝ }
-    ensures { λ r. ⌜ r ≤ run + 1 ⌝ }
-{
-    if mark == b' ' {
-        return 0;
+// A list of windows.
+pub(crate) fn show_windows(name: &[u8], list: &[u32]) {
+    word(name);
+    let mut run = Run {
+        mark: PLAIN,
+        length: 0,
+    };
+    for k in 0..list.len() {
+        run = tell_window(run, list[k]);
     }
-    if goes_on {
-        return run + 1;
-    }
-    1
-}
-
-// A list of windows on a line of its own: its name, its entries, and runs of the guard and of "unused".
-pub(crate) fn put_windows(out: &mut [u8], at: usize, name: &[u8], list: &[u32]) -> usize {
-    let mut next = put_text(out, at, name);
-    let mut mark = b' ';
-    let mut run: usize = 0;
-    let mut k: usize = 0;
-    while k < list.len() {
-        let here = mark_of(list[k]);
-        let goes_on = here == mark;
-        next = end_run(out, next, mark, run, goes_on);
-        next = put_window(out, next, here, list[k]);
-        run = run_after(run, goes_on, here);
-        mark = here;
-        k += 1;
-    }
-    next = put_run(out, next, mark, run);
-    put_byte(out, next, b'\n')
+    end_line(run);
 }

@@ -10,7 +10,7 @@ use native.Mathlib.Nat.{pow-succ'}
 use lib.Dec.{ltb}
 use lib.ListN.{length, length-append}
 use borrow.Author.Tests.{ltb-true, ltb-false, lt-ltb, le-ltb}
-use Rattle.report.specs.Decimals.{digit, digits, decimal, told}
+use Rattle.report.specs.Decimals.{digit, digits, decimal, valueOf}
 
 -- more digits than there are change nothing
 digits-enough : (n k v : ℕ) → v < n → v < k → digits n v ≡ digits k v
@@ -47,28 +47,28 @@ decimal-short (suc k) v h = go (ltb v 10) refl (decimal-short k (v / 10))
 
 -- ---- what they tell
 
-told-more : (v : ℕ) (ds : List ℕ) (d : ℕ) → told v (ds ++ (d ∷ [])) ≡ 10 * told v ds + (d - 48)
-unfolding told
-told-more v [] d = refl
-told-more v (e ∷ ds) d = told-more (10 * v + (e - 48)) ds d
+value-more : (v : ℕ) (ds : List ℕ) (d : ℕ) → valueOf v (ds ++ (d ∷ [])) ≡ 10 * valueOf v ds + (d - 48)
+unfolding valueOf
+value-more v [] d = refl
+value-more v (e ∷ ds) d = value-more (10 * v + (e - 48)) ds d
 
-told-one : (v : ℕ) → told 0 (digit v ∷ []) ≡ v
-unfolding told
-told-one v = omega arith
+value-one : (v : ℕ) → valueOf 0 (digit v ∷ []) ≡ v
+unfolding valueOf
+value-one v = omega arith
 
-digits-tell : (n v : ℕ) → v < n → told 0 (digits n v) ≡ v
+digits-tell : (n v : ℕ) → v < n → valueOf 0 (digits n v) ≡ v
 unfolding digits
 digits-tell zero v h = absurd (omega arith)
 digits-tell (suc n) v h = go (ltb v 10) refl (digits-tell n (v / 10))
   where
-    go : (t : Bool) → ltb v 10 ≡ t → (v / 10 < n → told 0 (digits n (v / 10)) ≡ v / 10)
-        → told 0 (cond t (digit v ∷ []) (digits n (v / 10) ++ (digit (v % 10) ∷ []))) ≡ v
-    go true e earlier = told-one v
+    go : (t : Bool) → ltb v 10 ≡ t → (v / 10 < n → valueOf 0 (digits n (v / 10)) ≡ v / 10)
+        → valueOf 0 (cond t (digit v ∷ []) (digits n (v / 10) ++ (digit (v % 10) ∷ []))) ≡ v
+    go true e earlier = value-one v
     go false e earlier =
         let l = ltb-false v 10 e in
         let f = earlier (omega arith) in
-        told-more 0 (digits n (v / 10)) (digit (v % 10)) ∙ rw f (omega arith)
+        value-more 0 (digits n (v / 10)) (digit (v % 10)) ∙ rw f (omega arith)
 
-pub decimal-tells : (v : ℕ) → told 0 (decimal v) ≡ v
+pub decimal-tells : (v : ℕ) → valueOf 0 (decimal v) ≡ v
 unfolding decimal
 decimal-tells v = digits-tell (suc v) v (omega arith)

@@ -18,7 +18,7 @@ use Rattle.order.specs.Duels.{fallen, duel, byWitness, meets, after, arrive, ar
 use Rattle.order.specs.Sweeping.{onTest, tests, sweepOne, sweepAll, testsOf, sweptBy, sweepCost, positions}
 use Rattle.order.specs.Written.{countsOf}
 use Rattle.order.specs.Recordings.{word, signed, distanceBack, sampleCount, marked, firstSample, samplesOf}
-use Rattle.order.specs.Refusals.{patternVerdict, witnessesVerdict, tablesVerdict, prepareVerdict, foreignAt, ownVerdict, roomVerdict, searchVerdict, readVerdict}
+use Rattle.order.specs.Refusals.{patternVerdict, witnessesVerdict, tablesVerdict, prepareVerdict, foreignAt, ownVerdict, roomVerdict, searchVerdict, trailerVerdict, pointsVerdict, readVerdict}
 use Rattle.report.specs.Decimals.{digits, decimal}
 use Rattle.report.specs.Texts.{ascii, refusalLine, countsLine, lines, afterSearch, blank, afterPreparation, afterPattern, afterTrace, textOf}
 
@@ -61,5 +61,5 @@ examples =
     []
 
 pub texts-come-out : allRight examples ≡ true
-unfolding same allRight samples recorded examples agree isNone entry windowsOf each those lowest orElse rel nearer nearest lowOf highOf lowTable highTable matches sameSpot against thenHigh testOf passes cost failedAt firstFail neighbourAt witnessI witnessJ witnessITable witnessJTable fallen duel byWitness meets after arrive arriveAll entrants duelled duels survivors onTest tests sweepOne sweepAll testsOf sweptBy sweepCost positions countsOf word signed distanceBack sampleCount marked firstSample samplesOf patternVerdict witnessesVerdict tablesVerdict prepareVerdict foreignAt ownVerdict roomVerdict searchVerdict readVerdict digits decimal refusalLine countsLine lines afterSearch blank afterPreparation afterPattern afterTrace textOf
+unfolding same allRight samples recorded examples agree isNone entry windowsOf each those lowest orElse rel nearer nearest lowOf highOf lowTable highTable matches sameSpot against thenHigh testOf passes cost failedAt firstFail neighbourAt witnessI witnessJ witnessITable witnessJTable fallen duel byWitness meets after arrive arriveAll entrants duelled duels survivors onTest tests sweepOne sweepAll testsOf sweptBy sweepCost positions countsOf word signed distanceBack sampleCount marked firstSample samplesOf patternVerdict witnessesVerdict tablesVerdict prepareVerdict foreignAt ownVerdict roomVerdict searchVerdict trailerVerdict pointsVerdict readVerdict digits decimal refusalLine countsLine lines afterSearch blank afterPreparation afterPattern afterTrace textOf
 texts-come-out = refl

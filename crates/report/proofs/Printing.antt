@@ -12,11 +12,11 @@ use Rattle.order.specs.declared.refusal.Refusal.{Refusal}
 use Rattle.order.specs.Refusals.{numberOf, placeOf}
 use Rattle.report.specs.Decimals.{decimal}
 use Rattle.report.specs.Texts.{ascii, newline, item, refusalLine, countsLine, lines}
-use Rattle.report.specs.Puts.{Put, PutWithin}
+use Rattle.report.specs.Inside.{numberRoom, countsRoom, lineRoom, Put, PutWithin}
 use Rattle.report.proofs.Numerals.{decimal-short}
 use Rattle.report.proofs.Putting.{put-more, put-as, put-none, put-room}
 
-pub short-64 : (v : ℕ) → v < 18446744073709551616 → length (decimal v) ≤ 20
+pub short-64 : (v : ℕ) → v < 18446744073709551616 → length (decimal v) ≤ numberRoom
 short-64 v h = decimal-short 19 v (omega arith)
 
 pub short-32 : (v : ℕ) → v < 4294967296 → length (decimal v) ≤ 10
@@ -33,12 +33,12 @@ within-more {s = s} {t = t} p q =
 -- ---- a number after a word, and on a line
 
 pub item-put : {a b c word : List ℕ} {i j k : ℕ} (v : ℕ) → v < 18446744073709551616 → Put a i word b j → Put b j (decimal v) c k
-    → PutWithin a i (word ++ decimal v) c k (length word + 20)
+    → PutWithin a i (word ++ decimal v) c k (length word + numberRoom)
 item-put {word = word} v h p q =
     let s = short-64 v h in let l = length-append word (decimal v) in record { put = put-more p q; few = omega arith }
 
 pub line-put : {a b c : List ℕ} {i j k v w : ℕ} → (w ≡ v) × (w < 4294967296) → Put a i (decimal w) b j → Put b j newline c k
-    → PutWithin a i (decimal v ++ newline) c k 11
+    → PutWithin a i (decimal v ++ newline) c k lineRoom
 line-put {v = v} {w} e p q =
     let s = short-32 w (e .1) in
     let m = e .0 in
@@ -71,7 +71,7 @@ pub counts-put : {a b₁ b₂ b₃ b₄ b₅ b₆ : List ℕ} {i₁ i₂ i₃ i�
     → (v₄ ≡ c .sweep) × (v₄ < 4294967296) → (v₅ ≡ c .found) × (v₅ < 4294967296)
     → PutWithin a 0 (item "windows " v₁) b₁ i₁ 28 → PutWithin b₁ i₁ (item " duels " v₂) b₂ i₂ 27 → PutWithin b₂ i₂ (item " survivors " v₃) b₃ i₃ 31
     → PutWithin b₃ i₃ (item " sweep " v₄) b₄ i₄ 27 → PutWithin b₄ i₄ (item " found " v₅) b₅ i₅ 27 → Put b₅ i₅ newline b₆ i₆
-    → PutWithin a 0 (countsLine c) b₆ i₆ 141
+    → PutWithin a 0 (countsLine c) b₆ i₆ countsRoom
 unfolding countsLine
 counts-put c e₁ e₂ e₃ e₄ e₅ p₁ p₂ p₃ p₄ p₅ q =
     within-more
@@ -92,12 +92,12 @@ lines-more (y ∷ ys) x = ap (λ l. decimal y ++ newline ++ l) (lines-more ys x)
 lines-next : (l : List ℕ) (k : ℕ) → k < length l → lines (take (k + 1) l) ≡ lines (take k l) ++ (decimal (getD l k 0) ++ newline)
 lines-next l k h = ap (λ n. lines (take n l)) (add-one k) ∙ ap lines (take-suc l k 0 h) ∙ lines-more (take k l) (getD l k 0)
 
-pub lines-begun : (a l : List ℕ) (i : ℕ) → i ≤ length a → PutWithin a i (lines (take 0 l)) a i (11 * 0)
+pub lines-begun : (a l : List ℕ) (i : ℕ) → i ≤ length a → PutWithin a i (lines (take 0 l)) a i (lineRoom * 0)
 unfolding lines
 lines-begun a l i h = record { put = put-none a i h; few = omega arith }
 
-pub lines-on : (l : List ℕ) (k : ℕ) {a b c : List ℕ} {i j e : ℕ} → k < length l → PutWithin a i (lines (take k l)) b j (11 * k)
-    → PutWithin b j (decimal (getD l k 0) ++ newline) c e 11 → PutWithin a i (lines (take (k + 1) l)) c e (11 * (k + 1))
+pub lines-on : (l : List ℕ) (k : ℕ) {a b c : List ℕ} {i j e : ℕ} → k < length l → PutWithin a i (lines (take k l)) b j (lineRoom * k)
+    → PutWithin b j (decimal (getD l k 0) ++ newline) c e lineRoom → PutWithin a i (lines (take (k + 1) l)) c e (lineRoom * (k + 1))
 lines-on l k {a} {b} {c} {i} {j} {e} h p q =
     let w = within-more p q in
     let f = w .few in

@@ -7,7 +7,7 @@ use native.Mathlib.Omega.{arith}
 use native.Mathlib.Numerals.{add-one}
 use lib.ListN.{length, getD, take, drop, set, length-append, length-drop, take-append-drop}
 use lib.Seq.{set-split, take-suc, length-take-le, take-at, drop-at, drop-drop, append-snoc}
-use Rattle.report.specs.Puts.{Put}
+use Rattle.report.specs.Inside.{Put}
 
 pub put-none : (l : List ℕ) (i : ℕ) → i ≤ length l → Put l i [] l i
 put-none l i h = record { fits = omega arith; ends = omega arith; written = rw append-nil (sym (ap (λ k. take i l ++ drop k l) same ∙ take-append-drop i l)) }

@@ -11,7 +11,7 @@ use borrow.Author.Tests.{lt-ltb, le-ltb}
 use Rattle.report.specs.declared.reporting.Reported.{Reported}
 use Rattle.report.specs.declared.reporting.Reported.the-variants.{Written, Short}
 use Rattle.report.specs.Texts.{textOf}
-use Rattle.report.specs.Puts.{Put}
+use Rattle.report.specs.Inside.{Put}
 use Rattle.report.specs.Promises.{textRoom, ReportPromise}
 use Rattle.report.proofs.Putting.{put-as, put-front, put-long}
 

@@ -30,9 +30,10 @@ use Rattle.recording.specs.declared.reading.Reading.the-variants.{Done, Refused
 use Rattle.order.specs.Written.{afterVerdict}
 use Rattle.recording.specs.Promises.{ReadPromise}
 use Rattle.recording.proofs.Readings.{done-from, unread-from, read-accepted}
-use Rattle.report.specs.Puts.{Listed}
+use Rattle.report.specs.Inside.{Listed}
 use Rattle.report.specs.Promises.{textRoom}
-use Rattle.report.specs.Texts.{inputLimit, patternRoom, traceRoom, ascii, refusalLine, countsLine, lines, blank, afterSearch, afterPreparation, afterPattern, afterTrace, textOf}
+use Rattle.order.specs.Sizes.{inputLimit}
+use Rattle.report.specs.Texts.{patternRoom, traceRoom, ascii, refusalLine, countsLine, lines, blank, afterSearch, afterPreparation, afterPattern, afterTrace, textOf}
 
 -- ---- the verdict behind an answer
 

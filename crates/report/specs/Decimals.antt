@@ -17,6 +17,6 @@ unfoldable pub decimal : ℕ → List ℕ
 decimal v = digits (suc v) v
 
 -- the number that digits tell
-unfoldable pub told : ℕ → List ℕ → ℕ
-told v [] = v
-told v (d ∷ ds) = told (10 * v + (d - 48)) ds
+unfoldable pub valueOf : ℕ → List ℕ → ℕ
+valueOf v [] = v
+valueOf v (d ∷ ds) = valueOf (10 * v + (d - 48)) ds

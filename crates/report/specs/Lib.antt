@@ -1,5 +1,5 @@
 -- What the program prints, as definitions over the rules of the crate `order`, and what this crate's functions promise.
 pub mod Decimals
 pub mod Texts
-pub mod Puts
 pub mod Promises
+pub mod Inside

@@ -1,7 +1,7 @@
 -- "The program": the text that `bench` prints for an input, byte for byte.
 use Prim.Native.Nat.{ℕ}
 use Prim.Native.Char.{code}
-use Prim.Native.String.{String, [] as none, _∷_ as _then_}
+use Prim.Native.String.{String, [] as nothing, _∷_ as _then_}
 use mathlib.Core.List.{List, [], _∷_, _++_}
 use mathlib.Core.Bool.{cond}
 use lib.Dec.{ltb}
@@ -10,6 +10,7 @@ use lib.ListN.{length, take, replicate}
 use Rattle.order.specs.declared.steps.Counts.{Counts}
 use Rattle.order.specs.declared.refusal.Refusal.{Refusal}
 use Rattle.order.specs.declared.refusal.Refusal.the-variants.{LongInput}
+use Rattle.order.specs.Sizes.{inputLimit}
 use Rattle.order.specs.Neighbours.{lowTable, highTable}
 use Rattle.order.specs.Witnesses.{witnessITable, witnessJTable}
 use Rattle.order.specs.Sweeping.{positions}
@@ -20,10 +21,7 @@ use Rattle.report.specs.Decimals.{decimal}
 
 -- ---- sizes
 
--- the longest input, in bytes, and the samples that the program's buffers hold
-abbrev pub inputLimit : ℕ
-inputLimit = 16384
-
+-- the samples that the program's buffers hold
 abbrev pub patternRoom : ℕ
 patternRoom = 1024
 
@@ -34,7 +32,7 @@ traceRoom = 2048
 
 -- a text of ASCII characters as bytes
 abbrev pub ascii : String → List ℕ
-ascii none = []
+ascii nothing = []
 ascii (c then s) = code c ∷ ascii s
 
 abbrev pub newline : List ℕ

@@ -7,16 +7,16 @@ use crate::texts::put_line;
 use crate::texts::put_text;
 use order::Counts;
 use order::Refusal;
-use order::wide32;
+use words::wide32;
 ghost use Prim.Native.Nat.{_+_, _*_, _≤_};
 ghost use mathlib.Core.List.{_++_};
 ghost use lib.ListN.{length, take};
 ghost use Rattle.report.specs.Texts.{refusalLine, countsLine, lines};
-ghost use Rattle.report.specs.Puts.{Put, PutWithin, Listed};
+ghost use Rattle.report.specs.Inside.{refusalRoom, countsRoom, lineRoom, Put, PutWithin, Listed};
 
 // The line of a refusal, at the front of a buffer.
 pub(crate) fn put_refusal(out: &mut [u8], word: &[u8], why: Refusal) -> usize
-    requires { ⌜ length (now word) + 57 ≤ length (now out) ⌝ }
+    requires { ⌜ length (now word) + refusalRoom ≤ length (now out) ⌝ }
     ensures { λ r. ⌜ Put (now (out .entry)) 0 (refusalLine (now (word .entry)) why) (now (out .exit)) r ⌝ }
 {
     let named = put_text(out, 0, word);
@@ -27,8 +27,8 @@ pub(crate) fn put_refusal(out: &mut [u8], word: &[u8], why: Refusal) -> usize
 
 // The counts of a search, at the front of a buffer.
 fn put_counts(out: &mut [u8], counts: Counts) -> usize
-    requires { ⌜ 141 ≤ length (now out) ⌝ }
-    ensures { λ r. ⌜ PutWithin (now (out .entry)) 0 (countsLine counts) (now (out .exit)) r 141 ⌝ }
+    requires { ⌜ countsRoom ≤ length (now out) ⌝ }
+    ensures { λ r. ⌜ PutWithin (now (out .entry)) 0 (countsLine counts) (now (out .exit)) r countsRoom ⌝ }
 {
     let windows = put_item(out, 0, b"windows ", wide32(counts.windows));
     let duels = put_item(out, windows, b" duels ", wide32(counts.duels));
@@ -40,7 +40,7 @@ fn put_counts(out: &mut [u8], counts: Counts) -> usize
 
 // The first `found` positions, one to a line.
 fn put_positions(out: &mut [u8], at: usize, positions: &[u32], found: usize) -> usize
-    requires { ⌜ (found ≤ length (now positions)) × (at + 11 * found ≤ length (now out)) ⌝ }
+    requires { ⌜ (found ≤ length (now positions)) × (at + lineRoom * found ≤ length (now out)) ⌝ }
     ensures { λ r. ⌜ Put (now (out .entry)) at (lines (take found (now (positions .entry)))) (now (out .exit)) r ⌝ }
 {
     let mut end = at;

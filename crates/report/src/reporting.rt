@@ -7,6 +7,7 @@
 use crate::lines::put_answer;
 use crate::lines::put_refusal;
 use crate::texts::put_text;
+use order::INPUT_LIMIT;
 use order::Refusal;
 use recording::Reading;
 use recording::read;
@@ -17,15 +18,13 @@ use tables::prepare;
 ghost use Prim.Native.Nat.{_+_, _≤_};
 ghost use lib.ListN.{length};
 ghost use Rattle.report.specs.Texts.{ascii, textOf};
-ghost use Rattle.report.specs.Puts.{Put, Said};
+ghost use Rattle.report.specs.Inside.{refusalRoom, Put, Said};
 ghost use Rattle.report.specs.Promises.{textRoom, ReportPromise};
 
 // A buffer of so many bytes has room for every text.
 pub const TEXT_ROOM: usize = 24576;
 
-// The longest input, in bytes, and the samples that the buffers hold.
-const INPUT_LIMIT: usize = 16384;
-
+// The samples that the buffers hold.
 const PATTERN_ROOM: usize = 1024;
 
 const TRACE_ROOM: usize = 2048;
@@ -38,7 +37,7 @@ pub enum Reported {
 
 // The line of a reading that was refused.
 fn put_unread(text: &mut [u8], word: &[u8], answer: Reading) -> usize
-    requires { ⌜ length (now word) + 57 ≤ length (now text) ⌝ }
+    requires { ⌜ length (now word) + refusalRoom ≤ length (now text) ⌝ }
     ensures { λ r. ⌜ Said Reading.Refused (now (text .entry)) (now (word .entry)) answer (now (text .exit)) r ⌝ }
 {
     let Reading::Refused(why) = answer else {

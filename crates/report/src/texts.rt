@@ -1,12 +1,12 @@
 // Bytes, texts and decimal numbers, put into a buffer from a place on. Each function answers the place after what it put and
 // leaves every other byte as it was. Follows docs/RULES.md, "The program". A byte takes one step; a number of d digits takes d calls.
 
-use order::wide32;
+use words::wide32;
 ghost use mathlib.Core.List.{_∷_, [], _++_};
 ghost use Prim.Native.Nat.{_+_, _≤_, _<_};
 ghost use lib.ListN.{length};
 ghost use Rattle.report.specs.Decimals.{digit, decimal};
-ghost use Rattle.report.specs.Puts.{Put, PutWithin};
+ghost use Rattle.report.specs.Inside.{numberRoom, lineRoom, Put, PutWithin};
 
 pub(crate) fn put_byte(out: &mut [u8], at: usize, byte: u8) -> usize
     requires { ⌜ at < length (now out) ⌝ }
@@ -48,8 +48,8 @@ fn put_number(out: &mut [u8], at: usize, v: usize) -> usize
 
 // A word and a number. No number of 64 bits has more than 20 digits.
 pub(crate) fn put_item(out: &mut [u8], at: usize, word: &[u8], v: usize) -> usize
-    requires { ⌜ at + length (now word) + 20 ≤ length (now out) ⌝ }
-    ensures { λ r. ⌜ PutWithin (now (out .entry)) at (now (word .entry) ++ decimal v) (now (out .exit)) r (length (now (word .entry)) + 20) ⌝ }
+    requires { ⌜ at + length (now word) + numberRoom ≤ length (now out) ⌝ }
+    ensures { λ r. ⌜ PutWithin (now (out .entry)) at (now (word .entry) ++ decimal v) (now (out .exit)) r (length (now (word .entry)) + numberRoom) ⌝ }
 {
     let end = put_text(out, at, word);
     put_number(out, end, v)
@@ -57,8 +57,8 @@ pub(crate) fn put_item(out: &mut [u8], at: usize, word: &[u8], v: usize) -> usiz
 
 // A number on a line of its own. No number of 32 bits has more than 10 digits.
 pub(crate) fn put_line(out: &mut [u8], at: usize, v: u32) -> usize
-    requires { ⌜ at + 11 ≤ length (now out) ⌝ }
-    ensures { λ r. ⌜ PutWithin (now (out .entry)) at (decimal v ++ (10 ∷ [])) (now (out .exit)) r 11 ⌝ }
+    requires { ⌜ at + lineRoom ≤ length (now out) ⌝ }
+    ensures { λ r. ⌜ PutWithin (now (out .entry)) at (decimal v ++ (10 ∷ [])) (now (out .exit)) r lineRoom ⌝ }
 {
     let end = put_number(out, at, wide32(v));
     put_byte(out, end, b'\n')

@@ -18,8 +18,8 @@ use Rattle.order.specs.Relations.{rel, alike}
 use Rattle.order.specs.PlaceTest.{testOf}
 use Rattle.order.specs.EntryTest.{told}
 use Rattle.order.proofs.PlaceTests.{first-place-free}
-use Rattle.search.specs.Courses.{Steady}
-use Rattle.search.specs.Sweeps.{SweptOne, Climbed}
+use Rattle.search.specs.Inside.Courses.{Steady}
+use Rattle.search.specs.Inside.Sweeps.{SweptOne, Climbed}
 use Rattle.search.proofs.SweepSteps.{Sweeping, begin-at, passed-on, ended-there, came-through}
 
 -- the tests of window x have come to sample e, past its first

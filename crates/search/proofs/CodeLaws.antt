@@ -21,8 +21,8 @@ use Rattle.order.specs.declared.steps.Meeting.the-variants.{NewerFalls, OlderFa
 use Rattle.order.specs.Sizes.{at, noPlace}
 use Rattle.order.specs.Relations.{rel, alike}
 use Rattle.order.specs.Duels.{fallen, duel}
-use Rattle.search.specs.Asked.{Duelable, OwnWitnesses}
-use Rattle.search.specs.Codes.{code, ownCode, Coded}
+use Rattle.search.specs.Inside.Asked.{Duelable, OwnWitnesses}
+use Rattle.search.specs.Inside.Codes.{code, ownCode, Coded}
 use Rattle.order.proofs.Tests.{clash}
 use Rattle.order.proofs.Orders.{ltZ-not-leZ, leZ-total}
 use Rattle.search.proofs.MeetingByTable.{older-stands, older-falls, by-offset, some-duels}

@@ -21,7 +21,7 @@ use Rattle.order.specs.Duels.{fallen, duel, byWitness, meets}
 use Rattle.order.proofs.Tests.{must-fail}
 use Rattle.order.proofs.Orders.{alike-same}
 use Rattle.order.proofs.Witnessing.{witness-is, none-together}
-use Rattle.search.specs.Asked.{OwnWitnesses, Duelable}
+use Rattle.search.specs.Inside.Asked.{OwnWitnesses, Duelable}
 
 -- the duel, from what was seen of the trace and of the pattern
 module _ {P T : List ℤ} {y a i j : ℕ} (d : Duelable P T y a i j) {s q : Relation} {older : Bool}

@@ -24,10 +24,10 @@ use Rattle.order.proofs.Tests.{clash}
 use Rattle.order.proofs.Lists.{Ascending}
 use Rattle.order.proofs.PlaceTests.{first-place-free}
 use Rattle.order.proofs.Whole.{survivors-ascend}
-use Rattle.search.specs.Asked.{Kept}
-use Rattle.search.specs.Courses.{Steady}
-use Rattle.search.specs.Runs.{GoesOn, RunOf, BlockAhead, LookOf, listedRun}
-use Rattle.search.specs.Sweeps.{SweptOne, SweptTo}
+use Rattle.search.specs.Inside.Asked.{Kept}
+use Rattle.search.specs.Inside.Courses.{Steady}
+use Rattle.search.specs.Inside.Runs.{GoesOn, RunOf, BlockAhead, LookOf, listedRun}
+use Rattle.search.specs.Inside.Sweeps.{SweptOne, SweptTo}
 use Rattle.search.proofs.SweepSteps.{last-passed, next-swept, entry-of, mem-at, rows-number, survivor-inside}
 
 -- ---- samples that go on
@@ -133,7 +133,7 @@ module _ {P T : List ℤ} {buffer : List ℕ} {kept : ℕ} (rows : Kept P T buff
 
 -- where there is none
 pub no-block : (P T : List ℤ) (buffer : List ℕ) (kept k reach : ℕ) → k < kept → (BlockAhead P buffer kept k reach → ⊥) → LookOf P T buffer kept k reach false 0
-no-block P T buffer kept k reach h n = record { passing = λ e. clash e refl; looked = λ b m. absurd (n b); block = omega arith; ahead = omega arith }
+no-block P T buffer kept k reach h n = record { passing = λ e. clash e refl; looked = λ b m. absurd (n b); few = omega arith; ahead = omega arith }
 
 -- ---- a block swept
 

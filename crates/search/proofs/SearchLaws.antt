@@ -24,15 +24,14 @@ use Rattle.order.proofs.Tests.{or-neither-first, or-neither-second}
 use Rattle.order.proofs.Lists.{Finds, lowest-finds}
 use Rattle.order.proofs.Dueling.{duels-and-survivors}
 use Rattle.order.proofs.Whole.{demands-hold}
-use Rattle.tables.specs.declared.fitting_lengths.Fitting.the-variants.{Fit, Refused as Unfit}
+use Rattle.sizes.specs.declared.answers.Fitting.the-variants.{Fit, Refused as Unfit}
 use Rattle.search.specs.declared.answers.Searched.{Searched}
 use Rattle.search.specs.declared.answers.Searched.the-variants.{Done, Refused as NotSearched}
-use Rattle.tables.specs.Lengths.{lengthsBy}
-use Rattle.search.specs.Asked.{Searchable, SearchedOf}
+use Rattle.sizes.specs.Answers.{fittingBy}
+use Rattle.search.specs.Inside.Asked.{Searchable, SearchedOf}
 use Rattle.search.specs.SearchPromise.{SearchPromise}
-use Rattle.tables.proofs.Verdicts.{pattern-passed, tables-passed, room-passed}
+use Rattle.sizes.proofs.Verdicts.{fit-accepted, unfit-why, pattern-passed, tables-passed, room-passed}
 use Rattle.tables.proofs.ForeignEntries.{passes-same}
-use Rattle.search.proofs.SearchVerdicts.{fits, unfit}
 use Rattle.search.proofs.WrittenOut.{filled-over, positions-few}
 
 -- ---- what an accepted search has
@@ -76,11 +75,11 @@ module _ (P : List ℤ) (low high wi wj : List ℕ) (e : lowest (foreignAt P low
   j-own : (k : ℕ) → k < length P → getD wj k 0 ≡ entry (witnessJ P k)
   j-own k h = passes-same wj (λ k. entry (witnessJ P k)) k (or-neither-second (off-i k) (off-j k) (or-neither-second (off-high k) (off-i k || off-j k) (rest k h)))
 
-pub search-ready : (P : List ℤ) (low high wi wj : List ℕ) (T : List ℤ) (s p : ℕ) {windows : ℕ} → Fit windows ≡ lengthsBy (searchVerdict P low high wi wj T s p) (windowsOf (length P) (length T))
+pub search-ready : (P : List ℤ) (low high wi wj : List ℕ) (T : List ℤ) (s p : ℕ) {windows : ℕ} → Fit windows ≡ fittingBy (searchVerdict P low high wi wj T s p) (windowsOf (length P) (length T))
     → Searchable P low high wi wj T windows s p
 unfolding searchVerdict
 search-ready P low high wi wj T s p f =
-    let v = fits (searchVerdict P low high wi wj T s p) (windowsOf (length P) (length T)) f in
+    let v = fit-accepted (searchVerdict P low high wi wj T s p) (windowsOf (length P) (length T)) f in
     let a = pattern-passed (length P) _ (v .0) in
     let b = tables-passed (length P) (length low) (length high) (length wi) (length wj) _ (a .2) in
     let c = room-passed (length P) (length T) s p _ (b .4) in
@@ -105,9 +104,9 @@ module _ (P : List ℤ) (low high wi wj : List ℕ) (T : List ℤ) (kept listed 
   abbrev verdict : Verdict
   verdict = searchVerdict P low high wi wj T (length kept) (length listed)
 
-  pub search-refused : {why : Refusal} → Unfit why ≡ lengthsBy verdict (windowsOf (length P) (length T)) → SearchPromise P low high wi wj T kept listed (NotSearched why) kept listed
+  pub search-refused : {why : Refusal} → Unfit why ≡ fittingBy verdict (windowsOf (length P) (length T)) → SearchPromise P low high wi wj T kept listed (NotSearched why) kept listed
   search-refused e =
-      let w = unfit verdict (windowsOf (length P) (length T)) e in
+      let w = unfit-why verdict (windowsOf (length P) (length T)) e in
       record {
         number = rw w refl;
         place = rw w refl;
@@ -117,10 +116,10 @@ module _ (P : List ℤ) (low high wi wj : List ℕ) (T : List ℤ) (kept listed 
         demands = λ c d. absurd (let z : _≡_ {A = ℕ} 0 1 = cc in omega arith);
       }
 
-  pub search-done : {kept' listed' : List ℕ} {c : Counts} {windows : ℕ} → Fit windows ≡ lengthsBy verdict (windowsOf (length P) (length T)) → SearchedOf P T kept listed kept' listed' c → SearchPromise P low high wi wj T kept listed (Done c) kept' listed'
+  pub search-done : {kept' listed' : List ℕ} {c : Counts} {windows : ℕ} → Fit windows ≡ fittingBy verdict (windowsOf (length P) (length T)) → SearchedOf P T kept listed kept' listed' c → SearchPromise P low high wi wj T kept listed (Done c) kept' listed'
   unfolding countsOf
   search-done {kept'} {listed'} {c} e s =
-      let w = fits verdict (windowsOf (length P) (length T)) e .0 in
+      let w = fit-accepted verdict (windowsOf (length P) (length T)) e .0 in
       record {
         number = rw w refl;
         place = rw w refl;

@@ -21,8 +21,8 @@ use Rattle.order.proofs.Dueling.{rules-fair, ended, arrive-append}
 use Rattle.search.specs.declared.duels.Arrival.{Arrival}
 use Rattle.search.specs.declared.duels.Arrival.the-variants.{Pushed, Dropped}
 use Rattle.order.specs.declared.relation.Relation.{Relation}
-use Rattle.search.specs.Courses.{Steady}
-use Rattle.search.specs.Stacks.{top, DuelsOf}
+use Rattle.search.specs.Inside.Courses.{Steady}
+use Rattle.search.specs.Inside.Stacks.{top, DuelsOf}
 
 -- ---- a buffer as a stack
 

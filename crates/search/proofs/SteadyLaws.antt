@@ -29,8 +29,8 @@ use Rattle.order.proofs.Nearest.{Ordering, upward, turned, Neighbour, le-refl}
 use Rattle.order.proofs.NearestOnly.{nearest-only}
 use Rattle.order.proofs.PlaceTests.{iso-order}
 use Rattle.order.proofs.Witnessing.{witness-is, none-agree, self-agree}
-use Rattle.search.specs.Asked.{OwnFirst}
-use Rattle.search.specs.Courses.{stepTest, Steady}
+use Rattle.search.specs.Inside.Asked.{OwnFirst}
+use Rattle.search.specs.Inside.Courses.{stepTest, Steady}
 use Rattle.search.proofs.MeetingByTable.{far-agree}
 
 -- ---- one way throughout, by any order of samples

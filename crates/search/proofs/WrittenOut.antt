@@ -14,9 +14,9 @@ use Rattle.order.specs.Sweeping.{sweepCost, positions}
 use Rattle.order.specs.Written.{countsOf, over, filled}
 use Rattle.order.proofs.Dueling.{duels-and-survivors}
 use Rattle.order.proofs.SweepLaws.{sweep-fails, sweep-lists-same}
-use Rattle.search.specs.Stacks.{DuelsOf}
-use Rattle.search.specs.Sweeps.{SweepOf}
-use Rattle.search.specs.Asked.{SearchedOf}
+use Rattle.search.specs.Inside.Stacks.{DuelsOf}
+use Rattle.search.specs.Inside.Sweeps.{SweepOf}
+use Rattle.search.specs.Inside.Asked.{SearchedOf}
 use Rattle.search.proofs.StackLaws.{length-top, reverse-top}
 
 -- the list, then "unused" up to entry n − 1, then the old content

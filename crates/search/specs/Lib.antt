@@ -1,9 +1,4 @@
--- What a search answers and promises, over the rules of the crate `order`, and what the functions of this crate ask of each
+-- What a search answers and promises, over the rules of the crate `order`; under Inside, what the functions of this crate say to each
 -- other.
-pub mod Codes
-pub mod Courses
-pub mod Asked
-pub mod Stacks
-pub mod Runs
-pub mod Sweeps
 pub mod SearchPromise
+pub mod Inside

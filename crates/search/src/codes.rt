@@ -7,14 +7,14 @@ use order::NONE;
 use order::Offset;
 use order::Place;
 use order::Window;
-use order::wide16;
+use words::wide16;
 ghost use mathlib.Core.Path.{_≡_};
 ghost use Prim.Native.Nat.{_+_, _<_, _≤_};
 ghost use lib.ListN.{length};
 ghost use Rattle.order.specs.Sizes.{at, noPlace};
 ghost use Rattle.order.specs.Relations.{rel};
-ghost use Rattle.search.specs.Asked.{OwnWitnesses};
-ghost use Rattle.search.specs.Codes.{code, ownCode, Coded};
+ghost use Rattle.search.specs.Inside.Asked.{OwnWitnesses};
+ghost use Rattle.search.specs.Inside.Codes.{code, ownCode, Coded};
 
 // How sample s of a list compares with sample t, as a number: 0 less, 1 equal, 2 greater. The machine needs one comparison and no branch
 // for it.

@@ -7,8 +7,8 @@
 use order::NONE;
 use order::Relation;
 use order::compare;
-ghost use Rattle.search.specs.Asked.{OwnFirst};
-ghost use Rattle.search.specs.Courses.{Chosen};
+ghost use Rattle.search.specs.Inside.Asked.{OwnFirst};
+ghost use Rattle.search.specs.Inside.Courses.{Chosen};
 
 // Steady, with how each sample compares with the one before it, or mixed.
 pub(crate) enum Course {

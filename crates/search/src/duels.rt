@@ -14,17 +14,17 @@ use order::PATTERN_LIMIT;
 use order::Place;
 use order::Relation;
 use order::Window;
-use order::wide16;
-use order::wide32;
+use words::wide16;
+use words::wide32;
 ghost use mathlib.Core.Path.{_≡_};
 ghost use Prim.Native.Nat.{_+_, _≤_, _<_};
 ghost use lib.ListN.{length};
 ghost use Rattle.order.specs.Sizes.{windowsOf, traceLimit};
 ghost use Rattle.order.specs.Duels.{duel as duelOf, meets};
-ghost use Rattle.search.specs.Asked.{Duelable, Meetable, Duels};
-ghost use Rattle.search.specs.Codes.{ownCode, Coded};
-ghost use Rattle.search.specs.Courses.{Steady};
-ghost use Rattle.search.specs.Stacks.{DuelsOf};
+ghost use Rattle.search.specs.Inside.Asked.{Duelable, Meetable, Duels};
+ghost use Rattle.search.specs.Inside.Codes.{ownCode, Coded};
+ghost use Rattle.search.specs.Inside.Courses.{Steady};
+ghost use Rattle.search.specs.Inside.Stacks.{DuelsOf};
 
 // Whether an arriving window ends on the stack.
 enum Arrival {

@@ -7,9 +7,9 @@ mod answers;
 mod codes;
 mod course;
 mod duels;
+mod mixed;
 mod searching;
 mod steady;
-mod sweep;
 mod unused_entries;
 
 pub use answers::Searched;

@@ -11,22 +11,22 @@ use crate::course::course_of;
 use crate::duels::Duelled;
 use crate::duels::duel_windows;
 use crate::duels::keep_all;
+use crate::mixed::Swept;
+use crate::mixed::sweep_mixed;
 use crate::steady::sweep_steady;
-use crate::sweep::Swept;
-use crate::sweep::sweep_all;
 use crate::unused_entries::fill_unused;
 use order::Counts;
-use tables::Checked;
-use tables::Fitting;
+use sizes::Checked;
+use sizes::Fitting;
 ghost use mathlib.Core.Path.{_≡_};
 ghost use lib.ListN.{length};
 ghost use Rattle.order.specs.Sizes.{windowsOf};
 ghost use Rattle.order.specs.Refusals.{searchVerdict};
-ghost use Rattle.tables.specs.Lengths.{lengthsBy};
-ghost use Rattle.search.specs.Asked.{Duels, Sweeps, Searchable, SearchedOf};
-ghost use Rattle.search.specs.Courses.{Chosen};
-ghost use Rattle.search.specs.Stacks.{DuelsOf};
-ghost use Rattle.search.specs.Sweeps.{SweepOf};
+ghost use Rattle.sizes.specs.Answers.{fittingBy};
+ghost use Rattle.search.specs.Inside.Asked.{Duels, Sweeps, Searchable, SearchedOf};
+ghost use Rattle.search.specs.Inside.Courses.{Chosen};
+ghost use Rattle.search.specs.Inside.Stacks.{DuelsOf};
+ghost use Rattle.search.specs.Inside.Sweeps.{SweepOf};
 ghost use Rattle.search.specs.SearchPromise.{SearchPromise};
 
 // All the conditions of a search, in the order of their numbers; where none holds, the number of windows.
@@ -40,9 +40,9 @@ fn check_search(
     survivors: usize,
     positions: usize,
 ) -> Fitting
-    ensures { λ r. ⌜ r ≡ lengthsBy (searchVerdict (now (pattern .entry)) (now (low .entry)) (now (high .entry)) (now («witness_i» .entry)) (now («witness_j» .entry)) (now (trace .entry)) survivors positions) (windowsOf (length (now (pattern .entry))) (length (now (trace .entry)))) ⌝ }
+    ensures { λ r. ⌜ r ≡ fittingBy (searchVerdict (now (pattern .entry)) (now (low .entry)) (now (high .entry)) (now («witness_i» .entry)) (now («witness_j» .entry)) (now (trace .entry)) survivors positions) (windowsOf (length (now (pattern .entry))) (length (now (trace .entry)))) ⌝ }
 {
-    match tables::lengths(
+    match sizes::for_search(
         pattern.len(),
         low.len(),
         high.len(),
@@ -103,7 +103,7 @@ fn sweep_windows(
 {
     match course {
         Course::Steady(way) => sweep_steady(pattern, trace, way, survivors, kept, positions),
-        Course::Mixed => sweep_all(pattern, low, high, trace, survivors, kept, positions),
+        Course::Mixed => sweep_mixed(pattern, low, high, trace, survivors, kept, positions),
     }
 }
 

@@ -7,24 +7,23 @@
 // that fails is charged nothing, and the block's windows are then swept one by one. So the sweep makes at most n + 2 S comparisons, those
 // of looks that fail counted in. Callers hand over the survivors of a steady pattern.
 
-use crate::sweep::Reached;
-use crate::sweep::Swept;
-use crate::sweep::list_one;
+use crate::mixed::Swept;
 use order::Relation;
 use order::Window;
-use order::larger;
-use order::smaller;
-use order::wide32;
+use words::larger;
+use words::smaller;
+use words::wide32;
 ghost use mathlib.Core.Path.{_≡_};
-ghost use mathlib.Core.Bool.{true};
+ghost use mathlib.Core.Bool.{true, cond};
 ghost use Prim.Native.Nat.{_+_, _-_, _≤_, _<_};
-ghost use lib.ListN.{length};
+ghost use lib.ListN.{length, set};
+ghost use Rattle.order.specs.Sizes.{traceLimit};
 ghost use Rattle.order.specs.Relations.{rel, alike};
 ghost use Rattle.order.specs.EntryTest.{told};
-ghost use Rattle.search.specs.Asked.{Kept, Steadily, SteadySweep};
-ghost use Rattle.search.specs.Courses.{Steady};
-ghost use Rattle.search.specs.Runs.{GoesOn, LookOf, listedRun};
-ghost use Rattle.search.specs.Sweeps.{Climbed, SweptTo, TurnOf, TurnedAll, SweepOf};
+ghost use Rattle.search.specs.Inside.Asked.{Kept, Steadily, SteadySweep};
+ghost use Rattle.search.specs.Inside.Courses.{Steady};
+ghost use Rattle.search.specs.Inside.Runs.{block, GoesOn, LookOf, listedRun};
+ghost use Rattle.search.specs.Inside.Sweeps.{Climbed, SweptTo, TurnOf, TurnedAll, SweepOf};
 
 // The windows of a block.
 const BLOCK: usize = 64;
@@ -54,14 +53,21 @@ fn goes_at(trace: &[i32], e: usize, way: Relation) -> bool
 
 // Whether each of a block's samples after sample e does.
 fn goes_on(trace: &[i32], e: usize, way: Relation) -> bool
-    requires { ⌜ (e + 64 < length (now trace)) × (length (now trace) ≤ 65536) ⌝ }
-    ensures { λ r. ⌜ (r ≡ true → GoesOn (now (trace .entry)) e 64 way) ⌝ }
+    requires { ⌜ (e + block < length (now trace)) × (length (now trace) ≤ traceLimit) ⌝ }
+    ensures { λ r. ⌜ (r ≡ true → GoesOn (now (trace .entry)) e block way) ⌝ }
 {
     let mut all = true;
     for k in 0..BLOCK {
         all = all & goes(trace[e + 1 + k], trace[e + k], way);
     }
     all
+}
+
+// Where the tests of one survivor end: E, the comparisons spent so far, and whether all its places passed.
+struct Reached {
+    reach: usize,
+    spent: u32,
+    whole: bool,
 }
 
 // The tests of survivor x from the sample `from` on.
@@ -97,6 +103,18 @@ fn climb(
         spent,
         whole: true,
     }
+}
+
+// Lists a window that passed all its places, and answers how many are listed then.
+fn list_one(positions: &mut [u32], found: usize, x: u32, whole: bool) -> usize
+    requires { ⌜ found < length (now positions) ⌝ }
+    ensures { λ r. ⌜ (now (positions .exit) ≡ cond whole (set (now (positions .entry)) found x) (now (positions .entry))) × (r ≡ cond whole (found + 1) found) ⌝ }
+{
+    if whole {
+        positions[found] = x;
+        return found + 1;
+    }
+    found
 }
 
 // How far the sweep has come: E, the comparisons spent, and how many windows are listed.
@@ -188,14 +206,14 @@ fn look_ahead(
     }
     Look {
         whole: goes_on(trace, reach - 1, way),
-        made: 64,
+        made: BLOCK as u32,
     }
 }
 
 // Lists a block: its entries of the survivors, from entry k on, from entry `found` of the positions on.
 fn list_block(survivors: &[u32], k: usize, positions: &mut [u32], found: usize)
-    requires { ⌜ (k + 64 ≤ length (now survivors)) × (found + 64 ≤ length (now positions)) ⌝ }
-    ensures { λ r. ⌜ now (positions .exit) ≡ listedRun (now (survivors .entry)) k found 64 (now (positions .entry)) ⌝ }
+    requires { ⌜ (k + block ≤ length (now survivors)) × (found + block ≤ length (now positions)) ⌝ }
+    ensures { λ r. ⌜ now (positions .exit) ≡ listedRun (now (survivors .entry)) k found block (now (positions .entry)) ⌝ }
 {
     for i in 0..BLOCK {
         positions[found + i] = survivors[k + i];

@@ -20,7 +20,7 @@ use Rattle.order.proofs.Orders.{ltZ-not-leZ, leZ-refl, leZ-trans}
 use Rattle.order.proofs.Nearest.{Ordering, upward, turned, Neighbour, Near}
 use Rattle.order.proofs.NearestOnly.{nearest-only}
 use Rattle.order.proofs.Entries.{entry-of-none, entry-of-place}
-use Rattle.tables.specs.Claims.{least, greatest, Outside, NoneWithin, limitAt, Limits, Floor, Ceiling, NoneBetween, OwnEntries}
+use Rattle.tables.specs.Inside.Claims.{least, greatest, Outside, NoneWithin, limitAt, Limits, Floor, Ceiling, NoneBetween, OwnEntries}
 use Rattle.tables.proofs.SampleSteps.{sample-least, sample-greatest, one-up, one-down, one-up-fits, one-down-fits}
 
 -- ---- a scan

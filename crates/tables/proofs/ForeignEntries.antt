@@ -9,15 +9,18 @@ use native.Mathlib.Omega.{arith}
 use lib.Dec.{ltb, eqb}
 use lib.IntN.{ℤ}
 use lib.ListN.{length, getD}
-use borrow.Author.Tests.{ltb-true, ltb-false, eq-eqb, ne-eqb, eqb-true}
+use borrow.Author.Tests.{ltb-true, ltb-false, lt-ltb, le-ltb, eq-eqb, ne-eqb, eqb-true}
 use Rattle.order.specs.Sizes.{none, place, entry, lowest}
 use Rattle.order.specs.Neighbours.{lowOf, highOf, lowTable, highTable}
 use Rattle.order.specs.Witnesses.{witnessI, witnessJ, witnessITable, witnessJTable}
-use Rattle.order.specs.Refusals.{foreignAt}
+use Rattle.order.specs.declared.refusal.Refusal.the-variants.{ForeignEntry}
+use Rattle.order.specs.Refusals.{foreignAt, ownVerdict}
 use Rattle.order.specs.Written.{over}
 use Rattle.order.proofs.Tests.{clash}
 use Rattle.order.proofs.Lists.{finds-lowest}
-use Rattle.tables.specs.Asked.{OwnNeighbours, TablesWritten, FirstDifference, FirstForeign}
+use Rattle.sizes.specs.declared.answers.Checked.the-variants.{Fine, Refused}
+use Rattle.sizes.specs.Answers.{checkedBy}
+use Rattle.tables.specs.Inside.Asked.{OwnNeighbours, TablesWritten, FirstDifference, FirstForeign}
 use Rattle.order.proofs.Filling.{over-at}
 
 -- ---- one table
@@ -159,3 +162,14 @@ against-witnesses P low high wi wj i j {wi'} {wj'} {c} {d} {r} o w s u e =
   where
     alike : (t : List ℕ) → FirstDifference t t (length P) (length P)
     alike t = record { within = omega arith; differs = λ h. absurd (omega arith); alike-before = λ k h. refl }
+
+-- ---- the verdict, by the lowest entry that is not the pattern's own
+
+module _ {P : List ℤ} {low high wi wj : List ℕ} {r : ℕ} (f : FirstForeign P low high wi wj r) where
+  pub own-foreign : r < length P → Refused (ForeignEntry r) ≡ checkedBy (ownVerdict (lowest (foreignAt P low high wi wj) (length P)))
+  unfolding ownVerdict
+  own-foreign h = rw (f .found, lt-ltb r (length P) h) refl
+
+  pub own-fine : length P ≤ r → Fine ≡ checkedBy (ownVerdict (lowest (foreignAt P low high wi wj) (length P)))
+  unfolding ownVerdict
+  own-fine h = rw (f .found, le-ltb r (length P) h) refl

@@ -1,7 +1,4 @@
 -- The laws that the functions' proofs cite, in the order of the argument.
-pub mod Verdicts
-pub mod VerdictRows
-pub mod LengthLaws
 pub mod SampleSteps
 pub mod NearestByValue
 pub mod ClaimLaws

@@ -23,8 +23,8 @@ use Rattle.order.proofs.Lists.{below-suc}
 use Rattle.order.proofs.Comparing.{equal-there}
 use Rattle.order.proofs.Nearest.{Ordering, upward, turned, Neighbour}
 use Rattle.order.proofs.NearestOnly.{nearest-only}
-use Rattle.tables.specs.Claims.{least, greatest, Outside, NoneWithin}
-use Rattle.tables.specs.NearValues.{onSide, later, nearestValue, NearestValues, LastAt, LastEqual}
+use Rattle.tables.specs.Inside.Claims.{least, greatest, Outside, NoneWithin}
+use Rattle.tables.specs.Inside.NearValues.{onSide, later, nearestValue, NearestValues, LastAt, LastEqual}
 use Rattle.tables.proofs.SampleSteps.{sample-least, sample-greatest}
 
 -- ---- the nearest value
@@ -118,7 +118,7 @@ module _ {le : ℤ → ℤ → Bool} (o : Ordering le) (edge : ℤ) (P : List �
       }
 
   last-entry : {r : ℕ} → LastEqual P j v r → r ≡ entry (nearest le P j j)
-  last-entry l = l .told ∙ ap entry (nearest-only o P j j (l .spot) (last-is (l .spot) (l .last)))
+  last-entry l = l .entry-is ∙ ap entry (nearest-only o P j j (l .spot) (last-is (l .spot) (l .last)))
 
 pub low-found : (P : List ℤ) (j : ℕ) {below above : ℤ} {r : ℕ} → NearestValues P j below above → LastEqual P j below r → r ≡ entry (lowOf P j)
 unfolding lowOf

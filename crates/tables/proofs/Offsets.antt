@@ -21,7 +21,7 @@ use Rattle.order.proofs.Lists.{below-suc}
 use Rattle.order.proofs.PlaceTests.{fails-at}
 use Rattle.order.proofs.TestByEntries.{test-by-own}
 use Rattle.order.proofs.Witnessing.{no-fail, all-pass-none, fail-first}
-use Rattle.tables.specs.Asked.{OwnNeighbours, OwnWitness, KnownBelow}
+use Rattle.tables.specs.Inside.Asked.{OwnNeighbours, OwnWitness, KnownBelow}
 use Rattle.order.proofs.Entries.{entry-of-place, entry-of-none}
 
 -- ---- the pattern from an offset on, as the code cuts it

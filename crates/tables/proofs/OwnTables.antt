@@ -8,7 +8,7 @@ use lib.ListN.{length, getD}
 use Rattle.order.specs.Sizes.{entry, patternLimit}
 use Rattle.order.specs.Neighbours.{lowOf, highOf, lowTable, highTable}
 use Rattle.order.specs.Written.{over}
-use Rattle.tables.specs.Asked.{OwnNeighbours}
+use Rattle.tables.specs.Inside.Asked.{OwnNeighbours}
 use Rattle.order.proofs.Filling.{over-at}
 
 pub own-neighbours : (P : List ℤ) (low high : List ℕ) {low' high' : List ℕ} → length P ≤ patternLimit →

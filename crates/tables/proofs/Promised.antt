@@ -12,15 +12,16 @@ use Rattle.order.specs.Witnesses.{witnessITable, witnessJTable}
 use Rattle.order.specs.Refusals.{Verdict, accepted, refused, prepareVerdict, ownVerdict, foreignAt, verdictNumber, verdictPlace}
 use Rattle.order.specs.declared.refusal.Refusal.{Refusal}
 use Rattle.order.specs.Written.{afterVerdict}
-use Rattle.tables.specs.declared.answers.Checked.{Checked}
-use Rattle.tables.specs.declared.answers.Checked.the-variants.{Fine, Refused}
+use Rattle.sizes.specs.declared.answers.Checked.{Checked}
+use Rattle.sizes.specs.declared.answers.Checked.the-variants.{Fine, Refused}
 use Rattle.tables.specs.declared.answers.Prepared.{Prepared}
 use Rattle.tables.specs.declared.answers.Prepared.the-variants.{Done, Refused as NotPrepared}
-use Rattle.tables.specs.Answers.{checkedNumber, checkedPlace, checkedBy, preparedBy}
-use Rattle.tables.specs.Asked.{TablesWritten}
+use Rattle.sizes.specs.Answers.{checkedNumber, checkedPlace, checkedBy}
+use Rattle.tables.specs.Answers.{preparedBy}
+use Rattle.tables.specs.Inside.Asked.{TablesWritten}
 use Rattle.tables.specs.Promises.{PreparePromise, TablesPromise, ownTablesVerdict}
-use Rattle.tables.proofs.Verdicts.{fine-accepted, refused-why}
-use Rattle.tables.proofs.VerdictRows.{sizes-through, sizes-stay}
+use Rattle.sizes.proofs.Verdicts.{fine-accepted, refused-why}
+use Rattle.sizes.proofs.VerdictRows.{sizes-through, sizes-stay}
 
 -- ---- preparation
 

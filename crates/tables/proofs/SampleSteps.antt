@@ -12,7 +12,7 @@ use mir.Syntax.{w32}
 use mir.Val.{SFits}
 use borrow.Author.Tests.{leb-true, leb-false, le-leb, lt-leb}
 use Rattle.order.proofs.Tests.{clash}
-use Rattle.tables.specs.Claims.{least, greatest}
+use Rattle.tables.specs.Inside.Claims.{least, greatest}
 
 pub sample-least : (x : ℤ) → SFits w32 x → leZ least x ≡ true
 sample-least (pos n) f = refl

@@ -17,7 +17,7 @@ use Rattle.order.specs.Witnesses.{firstFail, neighbourAt, witnessI, witnessJ}
 use Rattle.order.proofs.Orders.{same-tests-alike}
 use Rattle.order.proofs.PlaceTests.{AllPass, Ordered, passes-order, test-depends}
 use Rattle.order.proofs.Witnessing.{no-fail, all-pass-none, FirstFail, first-fail, fail-first, offset-zero, none-together}
-use Rattle.tables.specs.Asked.{OwnWitness, KnownBelow, Stretched}
+use Rattle.tables.specs.Inside.Asked.{OwnWitness, KnownBelow, Stretched}
 use Rattle.order.proofs.Entries.{entry-none, entry-place, entry-of-place, entry-of-none}
 
 -- place k of the pattern from a on

@@ -11,7 +11,7 @@ use lib.Seq.{drop-set-lt}
 use Rattle.order.specs.Sizes.{each, entry, noPlace}
 use Rattle.order.specs.Witnesses.{witnessI, witnessJ, witnessITable, witnessJTable}
 use Rattle.order.specs.Written.{over}
-use Rattle.tables.specs.Asked.{OwnWitness, OwnBelow, Stretched}
+use Rattle.tables.specs.Inside.Asked.{OwnWitness, OwnBelow, Stretched}
 use Rattle.order.proofs.Filling.{Filled, filled-first, filled-more, filled-all, filled-at}
 use Rattle.tables.proofs.Stretches.{stretch-none, first-offset}
 

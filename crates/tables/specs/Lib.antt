@@ -1,8 +1,5 @@
--- What the calls of this crate answer and promise, over the rules of the crate `order`, and what its functions ask of each
+-- What the calls of this crate answer and promise, over the rules of the crate `order`; under Inside, what its functions say to each
 -- other.
 pub mod Answers
 pub mod Promises
-pub mod Lengths
-pub mod Asked
-pub mod Claims
-pub mod NearValues
+pub mod Inside

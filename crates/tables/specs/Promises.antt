@@ -9,9 +9,10 @@ use Rattle.order.specs.Neighbours.{lowTable, highTable}
 use Rattle.order.specs.Witnesses.{witnessITable, witnessJTable}
 use Rattle.order.specs.Refusals.{Verdict, verdictNumber, verdictPlace, patternVerdict, tablesVerdict, prepareVerdict, ownVerdict, foreignAt}
 use Rattle.order.specs.Written.{afterVerdict}
-use Rattle.tables.specs.declared.answers.Checked.{Checked}
+use Rattle.sizes.specs.declared.answers.Checked.{Checked}
 use Rattle.tables.specs.declared.answers.Prepared.{Prepared}
-use Rattle.tables.specs.Answers.{checkedNumber, checkedPlace, checkedBy, preparedNumber, preparedPlace, preparedBy}
+use Rattle.sizes.specs.Answers.{checkedNumber, checkedPlace, checkedBy}
+use Rattle.tables.specs.Answers.{preparedNumber, preparedPlace, preparedBy}
 
 -- the verdict on a pattern and its tables
 abbrev pub sizesVerdict : List ℤ → List ℕ → List ℕ → List ℕ → List ℕ → Verdict

@@ -1,16 +1,9 @@
-// What each call answers. Follows docs/RULES.md, "Refusals": specs/Answers.antt gives each case its number and place. These are
-// types alone.
+// What preparation answers. Follows docs/RULES.md, "Refusals": specs/Answers.antt gives each case its number and place. A type alone.
 
 use order::Refusal;
 
 // What preparation answers.
 pub enum Prepared {
     Done,
-    Refused(Refusal),
-}
-
-// What a row of conditions comes to.
-pub enum Checked {
-    Fine,
     Refused(Refusal),
 }

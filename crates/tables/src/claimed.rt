@@ -5,16 +5,16 @@
 // the compiler turns into steps of four samples. "No" only means that some entry is not shown to be right. No array is kept.
 
 use order::NONE;
-use order::larger;
-use order::smaller;
-use order::wide16;
+use words::larger;
+use words::smaller;
+use words::wide16;
 ghost use mathlib.Core.Path.{_≡_};
 ghost use mathlib.Core.Bool.{true};
 ghost use Prim.Native.Nat.{_<_, _≤_};
 ghost use lib.ListN.{length};
 ghost use Rattle.order.specs.Sizes.{patternLimit};
-ghost use Rattle.tables.specs.Asked.{OwnNeighbours};
-ghost use Rattle.tables.specs.Claims.{Outside, NoneWithin, Floor, Ceiling, NoneBetween, OwnEntries};
+ghost use Rattle.tables.specs.Inside.Asked.{OwnNeighbours};
+ghost use Rattle.tables.specs.Inside.Claims.{Outside, NoneWithin, Floor, Ceiling, NoneBetween, OwnEntries};
 
 // The least and the greatest sample there can be: limits that nothing lies beyond.
 pub(crate) const LEAST: i32 = -2147483648;
@@ -171,7 +171,7 @@ pub(crate) fn neighbours_fit(pattern: &[i32], low: &[u16], high: &[u16]) -> bool
     ensures { λ r. ⌜ (r ≡ true → OwnNeighbours (now (pattern .entry)) (now (low .entry)) (now (high .entry))) ⌝ }
 {
     for j in 0..pattern.len() {
-        if place_fits(pattern, j, low[j], high[j]) {} else {
+        if !place_fits(pattern, j, low[j], high[j]) {
             return false;
         }
     }

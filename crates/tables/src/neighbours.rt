@@ -16,8 +16,8 @@ ghost use lib.ListN.{length};
 ghost use Rattle.order.specs.Sizes.{patternLimit};
 ghost use Rattle.order.specs.Neighbours.{lowTable, highTable};
 ghost use Rattle.order.specs.Written.{over};
-ghost use Rattle.tables.specs.Claims.{NoneWithin, OwnEntries};
-ghost use Rattle.tables.specs.NearValues.{NearestValues, LastEqual};
+ghost use Rattle.tables.specs.Inside.Claims.{NoneWithin, OwnEntries};
+ghost use Rattle.tables.specs.Inside.NearValues.{NearestValues, LastEqual};
 
 // How many samples are passed over with one branch.
 const STRIDE: usize = 8;

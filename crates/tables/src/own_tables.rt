@@ -6,22 +6,22 @@
 // steps by fours, 2 m tests for the witnesses and 2 m comparisons of entries, and 4 KB of stack; of others it costs a preparation and
 // 4 m comparisons besides, and 8 KB.
 
-use crate::answers::Checked;
-use crate::checks::check_prepare;
 use crate::claimed::neighbours_fit;
 use crate::preparation::write_tables;
 use crate::witnesses::write_witnesses;
 use order::PATTERN_LIMIT;
 use order::Refusal;
-use order::smaller;
+use sizes::Checked;
+use words::smaller;
 ghost use mathlib.Core.Path.{_≡_};
 ghost use Prim.Native.Nat.{_≤_};
 ghost use lib.ListN.{length};
 ghost use Rattle.order.specs.Sizes.{lowest};
 ghost use Rattle.order.specs.Refusals.{ownVerdict, foreignAt};
-ghost use Rattle.tables.specs.Answers.{checkedBy};
-ghost use Rattle.tables.specs.Asked.{Room, OwnNeighbours, FirstDifference, FirstForeign};
+ghost use Rattle.sizes.specs.Answers.{checkedBy};
+ghost use Rattle.sizes.specs.Lengths.{Room};
 ghost use Rattle.tables.specs.Promises.{TablesPromise};
+ghost use Rattle.tables.specs.Inside.Asked.{OwnNeighbours, FirstDifference, FirstForeign};
 
 // The lowest entry below m at which two tables differ, or m.
 fn first_difference(table: &[u16], own: &[u16], m: usize) -> usize
@@ -133,15 +133,15 @@ pub fn check_tables(
 ) -> Checked
     ensures { λ r. ⌜ TablesPromise (now (pattern .entry)) (now (low .entry)) (now (high .entry)) (now («witness_i» .entry)) (now («witness_j» .entry)) r ⌝ }
 {
-    let sizes = check_prepare(
+    let lengths = sizes::for_tables(
         pattern.len(),
         low.len(),
         high.len(),
         witness_i.len(),
         witness_j.len(),
     );
-    let Checked::Fine = sizes else {
-        return sizes;
+    let Checked::Fine = lengths else {
+        return lengths;
     };
     check_own(pattern, low, high, witness_i, witness_j)
 }

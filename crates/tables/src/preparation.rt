@@ -4,14 +4,14 @@
 // store, so a refused call leaves every table as it was. The neighbour tables take m² / 2 steps by fours and at most m² by
 // eights; the witness tables are made from them. No array is kept.
 
-use crate::answers::Checked;
 use crate::answers::Prepared;
-use crate::checks::check_prepare;
 use crate::neighbours::write_neighbours;
 use crate::witnesses::write_witnesses;
+use sizes::Checked;
 ghost use lib.ListN.{length};
-ghost use Rattle.tables.specs.Asked.{Room, TablesWritten};
+ghost use Rattle.sizes.specs.Lengths.{Room};
 ghost use Rattle.tables.specs.Promises.{PreparePromise};
+ghost use Rattle.tables.specs.Inside.Asked.{TablesWritten};
 
 // Writes the pattern's tables, each from entry 0 on.
 pub(crate) fn write_tables(
@@ -38,7 +38,7 @@ pub fn prepare(
 ) -> Prepared
     ensures { λ r. ⌜ PreparePromise (now (pattern .entry)) (now (low .entry)) (now (high .entry)) (now («witness_i» .entry)) (now («witness_j» .entry)) r (now (low .exit)) (now (high .exit)) (now («witness_i» .exit)) (now («witness_j» .exit)) ⌝ }
 {
-    match check_prepare(
+    match sizes::for_tables(
         pattern.len(),
         low.len(),
         high.len(),

@@ -17,7 +17,7 @@ ghost use lib.ListN.{length};
 ghost use Rattle.order.specs.Sizes.{entry, patternLimit};
 ghost use Rattle.order.specs.Witnesses.{witnessJ, witnessITable, witnessJTable};
 ghost use Rattle.order.specs.Written.{over};
-ghost use Rattle.tables.specs.Asked.{OwnNeighbours, OwnWitness, OwnBelow, KnownBelow, Stretched};
+ghost use Rattle.tables.specs.Inside.Asked.{OwnNeighbours, OwnWitness, OwnBelow, KnownBelow, Stretched};
 
 // The entries of one offset: the neighbour that failed and the place that failed first, or none twice.
 struct Witness {

@@ -1,6 +1,6 @@
 -- `read_damages` is safe and ends: one change a turn.
 -- Assumes nothing.
-use Prim.Native.Nat.{_<_, _-_}
+use Prim.Native.Nat.{_-_}
 use mathlib.Core.Path.{_≡_}
 use lib.ListN.{length}
 use borrow.Author.Needs.{needs}
@@ -8,10 +8,10 @@ use Rattle.replay.proofs.read_damages.Statement.{statement}
 use Rattle.replay.proofs.read_damages.Tie as tie
 
 abbrev Inv-loop : tie.InvT-loop
-Inv-loop low₀ high₀ witness-i₀ witness-j₀ count k₀ low high witness-i witness-j k = (length low ≡ length low₀) × (length high ≡ length high₀) × (length witness-i ≡ length witness-i₀) × (length witness-j ≡ length witness-j₀) × (count < 4294967296)
+Inv-loop low₀ high₀ witness-i₀ witness-j₀ counter₀ end low high witness-i witness-j counter = (length low ≡ length low₀) × (length high ≡ length high₀) × (length witness-i ≡ length witness-i₀) × (length witness-j ≡ length witness-j₀)
 
 abbrev μ-loop : tie.MeasureT-loop
-μ-loop low₀ high₀ witness-i₀ witness-j₀ count k₀ low high witness-i witness-j k = count - k
+μ-loop low₀ high₀ witness-i₀ witness-j₀ counter₀ end low high witness-i witness-j counter = end - counter
 
 read-number-requires : tie.Need-read-number-requires Inv-loop μ-loop
 read-number-requires c κs = search needs
@@ -25,11 +25,8 @@ read-number-requires-2 c κs = search needs
 read-number-requires-3 : tie.Need-read-number-requires-3 Inv-loop μ-loop
 read-number-requires-3 c κs = search needs
 
-read-number-requires-4 : tie.Need-read-number-requires-4 Inv-loop μ-loop
-read-number-requires-4 c κs = search needs
-
-cast-value : tie.Need-cast-value Inv-loop μ-loop
-cast-value c = search needs
+read-entry-requires : tie.Need-read-entry-requires Inv-loop μ-loop
+read-entry-requires c κs = search needs
 
 damage-requires : tie.Need-damage-requires Inv-loop μ-loop
 damage-requires c κs = search needs
@@ -43,8 +40,8 @@ damage-requires-3 c κs = search needs
 damage-requires-4 : tie.Need-damage-requires-4 Inv-loop μ-loop
 damage-requires-4 c κs = search needs
 
-add-k : tie.Need-add-k Inv-loop μ-loop
-add-k c = search needs
+add-counter : tie.Need-add-counter Inv-loop μ-loop
+add-counter c = search needs
 
 loop-less : tie.Need-loop-less Inv-loop μ-loop
 loop-less c = search needs
@@ -77,13 +74,12 @@ read-damages-spec =
     loop-holds
     read-number-requires-2
     read-number-requires-3
-    read-number-requires-4
-    cast-value
+    read-entry-requires
     damage-requires
     damage-requires-2
     damage-requires-3
     damage-requires-4
-    add-k
+    add-counter
     loop-less
     loop-again
     same-length

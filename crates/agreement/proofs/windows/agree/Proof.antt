@@ -1,17 +1,14 @@
 -- `agree` meets its contract: the sizes' verdict, and then the table's at the offset of the two starts.
 -- Assumes nothing.
 use mathlib.Core.Path.{sym, _∙_}
-use Rattle.tables.proofs.Verdicts.{fine-accepted, agree-room}
+use Rattle.sizes.proofs.Verdicts.{fine-accepted, prepare-room}
 use Rattle.agreement.proofs.Agreed.{agree-refused, agree-compared}
-use denote.Ref.{now}
-use lib.ListN.{length}
-use Rattle.order.specs.Refusals.{agreeVerdict}
 use borrow.Author.Needs.{needs}
 use Rattle.agreement.proofs.windows.agree.Statement.{statement}
 use Rattle.agreement.proofs.windows.agree.Tie as tie
 
-check-agree-requires : tie.Need-check-agree-requires
-check-agree-requires c κs = search needs
+for-tables-requires : tie.Need-for-tables-requires
+for-tables-requires c κs = search needs
 
 enum-known-why : tie.Need-enum-known-why
 enum-known-why c = search needs
@@ -24,21 +21,20 @@ between-requires c κs = search needs
 
 agree-at-requires : tie.Need-agree-at-requires
 agree-at-requires c κs =
-    let a = c .before .before .before .before .before .before .args in
-    agree-room _ _ _ (fine-accepted (agreeVerdict (a .m) (length (now (a .witness-i))) (length (now (a .witness-j)))) (sym (c .before .enum-told .given .1) ∙ c .before .before .before .check-agree .ensures))
+    prepare-room _ _ _ _ _ (fine-accepted _ (sym (c .before .enum-told .given .1) ∙ c .before .before .before .for-tables .ensures)) .witness-i-room
 
 returns : tie.Need-returns
-returns c = agree-refused _ _ _ _ _ _ (sym (c .before .why .given .1) ∙ c .before .before .before .check-agree .ensures)
+returns c = agree-refused _ _ _ _ _ _ (sym (c .before .why .given .1) ∙ c .before .before .before .for-tables .ensures)
 
 returns-2 : tie.Need-returns-2
 returns-2 c =
-    agree-compared _ _ _ _ _ _ _ (sym (c .before .before .enum-told .given .1) ∙ c .before .before .before .before .check-agree .ensures) (c .before .between .ensures) (c .agree-at .ensures)
+    agree-compared _ _ _ _ _ _ _ (sym (c .before .before .enum-told .given .1) ∙ c .before .before .before .before .for-tables .ensures) (c .before .between .ensures) (c .agree-at .ensures)
 
 pub agree-spec : {M : Type 1} → statement M
 agree-spec =
     tie.close
     (tie.spec
-    check-agree-requires
+    for-tables-requires
     enum-known-why
     enum-told
     between-requires

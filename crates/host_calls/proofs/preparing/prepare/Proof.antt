@@ -1,19 +1,20 @@
 -- `prepare` meets its contract: refused before anything is written, or the tables.
 -- Assumes nothing.
 use denote.Ref.{now}
-use Rattle.host_calls.proofs.PrepareLaws.{fit-room, prepare-refused, prepare-put}
+use mathlib.Core.Path.{sym, _∙_}
+use Rattle.host_calls.proofs.PrepareLaws.{fine-room, prepare-refused, prepare-put}
 use borrow.Author.Needs.{needs}
 use Rattle.host_calls.proofs.preparing.prepare.Statement.{statement}
 use Rattle.host_calls.proofs.preparing.prepare.Tie as tie
 
-lengths-requires : tie.Need-lengths-requires
-lengths-requires c κs = search needs
+for-tables-requires : tie.Need-for-tables-requires
+for-tables-requires c κs = search needs
 
 enum-known-why : tie.Need-enum-known-why
 enum-known-why c = search needs
 
-coded-requires : tie.Need-coded-requires
-coded-requires c κs = search needs
+result-of-requires : tie.Need-result-of-requires
+result-of-requires c κs = search needs
 
 enum-told : tie.Need-enum-told
 enum-told c = search needs
@@ -21,12 +22,12 @@ enum-told c = search needs
 prepare-fitting-requires : tie.Need-prepare-fitting-requires
 prepare-fitting-requires c κs =
     let a = c .before .before .before .before .before .before .before .before .before .before .before .before .args in
-    fit-room (now (a .pattern)) (now (a .low)) (now (a .high)) (now (a .witness-i)) (now (a .witness-j)) _ (c .before .before .before .before .before .before .lengths .ensures) (c .before .before .before .before .enum-told .given .1)
+    fine-room (now (a .pattern)) (now (a .low)) (now (a .high)) (now (a .witness-i)) (now (a .witness-j)) (sym (c .before .before .before .before .enum-told .given .1) ∙ c .before .before .before .before .before .before .for-tables .ensures)
 
 returns : tie.Need-returns
 returns c =
     let a = c .before .before .before .before .before .before .before .before .before .before .args in
-    prepare-refused (now (a .pattern)) (now (a .low)) (now (a .high)) (now (a .witness-i)) (now (a .witness-j)) _ (c .before .before .before .before .lengths .ensures) (c .before .before .why .given .1) (c .coded .ensures)
+    prepare-refused (now (a .pattern)) (now (a .low)) (now (a .high)) (now (a .witness-i)) (now (a .witness-j)) _ (sym (c .before .before .why .given .1) ∙ c .before .before .before .before .for-tables .ensures) (c .result-of .ensures)
 
 same-length : tie.Need-same-length
 same-length c = search needs
@@ -43,15 +44,15 @@ same-length-4 c = search needs
 returns-2 : tie.Need-returns-2
 returns-2 c =
     let a = c .before .before .before .before .before .before .before .before .before .before .before .before .before .before .before .before .before .before .before .before .before .args in
-    prepare-put (now (a .pattern)) (now (a .low)) (now (a .high)) (now (a .witness-i)) (now (a .witness-j)) _ (c .before .before .before .before .before .before .before .before .before .before .before .before .before .before .before .lengths .ensures) (c .before .before .before .before .before .before .before .before .before .before .before .before .before .enum-told .given .1) (c .before .before .before .before .before .before .before .before .prepare-fitting .ensures)
+    prepare-put (now (a .pattern)) (now (a .low)) (now (a .high)) (now (a .witness-i)) (now (a .witness-j)) (sym (c .before .before .before .before .before .before .before .before .before .before .before .before .before .enum-told .given .1) ∙ c .before .before .before .before .before .before .before .before .before .before .before .before .before .before .before .for-tables .ensures) (c .before .before .before .before .before .before .before .before .prepare-fitting .ensures)
 
 pub prepare-spec : {M : Type 1} → statement M
 prepare-spec =
     tie.close
     (tie.spec
-    lengths-requires
+    for-tables-requires
     enum-known-why
-    coded-requires
+    result-of-requires
     enum-told
     prepare-fitting-requires
     returns

@@ -2,7 +2,7 @@
 -- Assumes nothing.
 use denote.Ref.{now}
 use mathlib.Core.Path.{refl}
-use Rattle.wire.proofs.Handing.{samples-taken}
+use Rattle.words.proofs.Handing.{samples-taken}
 use borrow.Author.Needs.{needs}
 use Rattle.host_calls.proofs.reading.all_samples.Statement.{statement}
 use Rattle.host_calls.proofs.reading.all_samples.Tie as tie

@@ -1,5 +1,5 @@
 -- `search` meets its contract: a long trace is searched as `search_large` does, and a short one is refused before anything is written,
--- or searched in the small arrays.
+-- or searched in arrays of its size.
 -- Assumes nothing.
 use denote.Ref.{now}
 use Rattle.host_calls.proofs.SearchingLaws.{search-fits, search-refused}
@@ -20,30 +20,24 @@ same-length-3 : tie.Need-same-length-3
 same-length-3 c = search needs
 
 returns : tie.Need-returns
-returns c =
-    c .before .before .before .before .before .before .search-large .ensures
+returns c = c .before .before .before .before .before .before .search-large .ensures
 
-lengths-requires : tie.Need-lengths-requires
-lengths-requires c κs = search needs
+for-search-requires : tie.Need-for-search-requires
+for-search-requires c κs = search needs
 
 enum-known-why : tie.Need-enum-known-why
 enum-known-why c = search needs
 
-coded-requires : tie.Need-coded-requires
-coded-requires c κs = search needs
+result-of-requires : tie.Need-result-of-requires
+result-of-requires c κs = search needs
 
 enum-known-windows : tie.Need-enum-known-windows
 enum-known-windows c = search needs
 
-search-small-requires : tie.Need-search-small-requires
-search-small-requires c κs =
-    let a = c .before .before .before .before .before .before .before .before .before .before .before .before .before .before .before .before .before .args in
-    (search needs, search-fits (now (a .pattern)) (now (a .low)) (now (a .high)) (now (a .witness-i)) (now (a .witness-j)) (now (a .trace)) (now (a .survivors)) (now (a .positions)) (now (a .counts)) _ (c .before .before .before .before .before .before .lengths .ensures) (c .before .before .before .before .windows .given .1))
-
-returns-2 : tie.Need-returns-2
-returns-2 c =
-    let a = c .before .before .before .before .before .before .before .before .before .before .before .before .before .before .before .args in
-    search-refused (now (a .pattern)) (now (a .low)) (now (a .high)) (now (a .witness-i)) (now (a .witness-j)) (now (a .trace)) (now (a .survivors)) (now (a .positions)) (now (a .counts)) _ (c .before .before .before .before .lengths .ensures) (c .before .before .why .given .1) (c .coded .ensures)
+search-short-requires : tie.Need-search-short-requires
+search-short-requires c κs =
+    let a = c .before .before .before .before .before .before .before .before .before .before .before .before .before .before .before .before .before .before .args in
+    (search needs, search-fits (now (a .pattern)) (now (a .low)) (now (a .high)) (now (a .witness-i)) (now (a .witness-j)) (now (a .trace)) (now (a .survivors)) (now (a .positions)) (now (a .counts)) _ (c .before .before .before .before .before .before .before .for-search .ensures) (c .before .before .before .before .before .windows .given .1))
 
 same-length-4 : tie.Need-same-length-4
 same-length-4 c = search needs
@@ -54,9 +48,30 @@ same-length-5 c = search needs
 same-length-6 : tie.Need-same-length-6
 same-length-6 c = search needs
 
+returns-2 : tie.Need-returns-2
+returns-2 c = c .before .before .before .before .before .before .search-short .ensures
+
+search-brief-requires : tie.Need-search-brief-requires
+search-brief-requires c κs =
+    let a = c .before .before .before .before .before .before .before .before .before .before .before .before .before .before .before .before .before .before .args in
+    (search needs, search-fits (now (a .pattern)) (now (a .low)) (now (a .high)) (now (a .witness-i)) (now (a .witness-j)) (now (a .trace)) (now (a .survivors)) (now (a .positions)) (now (a .counts)) _ (c .before .before .before .before .before .before .before .for-search .ensures) (c .before .before .before .before .before .windows .given .1))
+
 returns-3 : tie.Need-returns-3
 returns-3 c =
-    c .before .before .before .before .before .before .search-small .ensures
+    let a = c .before .before .before .before .before .before .before .before .before .before .before .before .before .before .before .args in
+    search-refused (now (a .pattern)) (now (a .low)) (now (a .high)) (now (a .witness-i)) (now (a .witness-j)) (now (a .trace)) (now (a .survivors)) (now (a .positions)) (now (a .counts)) _ (c .before .before .before .before .for-search .ensures) (c .before .before .why .given .1) (c .result-of .ensures)
+
+same-length-7 : tie.Need-same-length-7
+same-length-7 c = search needs
+
+same-length-8 : tie.Need-same-length-8
+same-length-8 c = search needs
+
+same-length-9 : tie.Need-same-length-9
+same-length-9 c = search needs
+
+returns-4 : tie.Need-returns-4
+returns-4 c = c .before .before .before .before .before .before .search-brief .ensures
 
 pub search-spec : {M : Type 1} → statement M
 search-spec =
@@ -67,13 +82,18 @@ search-spec =
     same-length-2
     same-length-3
     returns
-    lengths-requires
+    for-search-requires
     enum-known-why
-    coded-requires
+    result-of-requires
     enum-known-windows
-    search-small-requires
-    returns-2
+    search-short-requires
     same-length-4
     same-length-5
     same-length-6
-    returns-3)
+    returns-2
+    search-brief-requires
+    returns-3
+    same-length-7
+    same-length-8
+    same-length-9
+    returns-4)

@@ -1,6 +1,6 @@
 -- `read_entries` is safe and ends: one entry a turn.
 -- Assumes nothing.
-use Prim.Native.Nat.{_-_}
+use Prim.Native.Nat.{_≤_, _-_}
 use mathlib.Core.Path.{_≡_}
 use lib.ListN.{length}
 use borrow.Author.Needs.{needs}
@@ -8,28 +8,19 @@ use Rattle.replay.proofs.input.read_entries.Statement.{statement}
 use Rattle.replay.proofs.input.read_entries.Tie as tie
 
 abbrev Inv-loop : tie.InvT-loop
-Inv-loop entries₀ count k₀ entries k = length entries ≡ length entries₀
+Inv-loop entries₀ count k₀ entries k = (length entries ≡ length entries₀) × (count ≤ length entries₀)
 
 abbrev μ-loop : tie.MeasureT-loop
-μ-loop entries₀ count k₀ entries k = length entries₀ - k
+μ-loop entries₀ count k₀ entries k = count - k
 
-read-number-requires : tie.Need-read-number-requires Inv-loop μ-loop
-read-number-requires c κs = search needs
+read-length-requires : tie.Need-read-length-requires Inv-loop μ-loop
+read-length-requires c κs = search needs
 
 loop-holds : tie.Need-loop-holds Inv-loop μ-loop
 loop-holds c = search needs
 
-same-length : tie.Need-same-length Inv-loop μ-loop
-same-length c = search needs
-
-returns : tie.Need-returns Inv-loop μ-loop
-returns c = search needs
-
-read-number-requires-2 : tie.Need-read-number-requires-2 Inv-loop μ-loop
-read-number-requires-2 c κs = search needs
-
-cast-entries : tie.Need-cast-entries Inv-loop μ-loop
-cast-entries c = search needs
+read-entry-requires : tie.Need-read-entry-requires Inv-loop μ-loop
+read-entry-requires c κs = search needs
 
 mul-entries : tie.Need-mul-entries Inv-loop μ-loop
 mul-entries c = search needs
@@ -46,11 +37,11 @@ loop-less c = search needs
 loop-again : tie.Need-loop-again Inv-loop μ-loop
 loop-again c = search needs
 
-same-length-2 : tie.Need-same-length-2 Inv-loop μ-loop
-same-length-2 c = search needs
+same-length : tie.Need-same-length Inv-loop μ-loop
+same-length c = search needs
 
-returns-2 : tie.Need-returns-2 Inv-loop μ-loop
-returns-2 c = search needs
+returns : tie.Need-returns Inv-loop μ-loop
+returns c = search needs
 
 pub read-entries-spec : {M : Type 1} → statement M
 read-entries-spec =
@@ -58,16 +49,13 @@ read-entries-spec =
     (tie.spec
     Inv-loop
     μ-loop
-    read-number-requires
+    read-length-requires
     loop-holds
-    same-length
-    returns
-    read-number-requires-2
-    cast-entries
+    read-entry-requires
     mul-entries
     slice-write-entries
     add-k
     loop-less
     loop-again
-    same-length-2
-    returns-2)
+    same-length
+    returns)

@@ -7,7 +7,7 @@ use native.Mathlib.Omega.{arith}
 use denote.Ref.{now}
 use lib.ListN.{take}
 use Rattle.report.specs.Texts.{lines}
-use Rattle.report.specs.Puts.{PutWithin}
+use Rattle.report.specs.Inside.{lineRoom, PutWithin}
 use Rattle.report.proofs.Putting.{put-long}
 use Rattle.report.proofs.Printing.{within-room, lines-begun, lines-on}
 use borrow.Author.Needs.{needs}
@@ -15,7 +15,7 @@ use Rattle.report.proofs.lines.put_positions.Statement.{statement}
 use Rattle.report.proofs.lines.put_positions.Tie as tie
 
 abbrev Inv-loop : tie.InvT-loop
-Inv-loop out₀ at positions found end₀ k₀ out end k = (k ≤ found) × PutWithin out₀ at (lines (take k positions)) out end (11 * k)
+Inv-loop out₀ at positions found end₀ k₀ out end k = (k ≤ found) × PutWithin out₀ at (lines (take k positions)) out end (lineRoom * k)
 
 abbrev μ-loop : tie.MeasureT-loop
 μ-loop out₀ at positions found end₀ k₀ out end k = found - k
@@ -35,7 +35,7 @@ put-line-requires c κs =
     let l = c .before .before .before .loop in
     let h = c .before .before .loop-test .taken in
     let p = s .pre .1 in
-    within-room (l .inv .1) 11 (omega arith)
+    within-room (l .inv .1) lineRoom (omega arith)
 
 add-k : tie.Need-add-k Inv-loop μ-loop
 add-k c = search needs

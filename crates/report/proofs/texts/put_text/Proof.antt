@@ -4,7 +4,7 @@ use Prim.Native.Nat.{_≤_, _-_}
 use mathlib.Core.Path.{_≡_, refl}
 use lib.ListN.{length, take}
 use lib.Seq.{take-all}
-use Rattle.report.specs.Puts.{Put}
+use Rattle.report.specs.Inside.{Put}
 use Rattle.report.proofs.Putting.{put-none, put-next, next-room, put-as, put-long}
 use borrow.Author.Needs.{needs}
 use Rattle.report.proofs.texts.put_text.Statement.{statement}

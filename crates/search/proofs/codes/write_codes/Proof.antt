@@ -4,7 +4,7 @@ use Prim.Native.Nat.{_-_}
 use mathlib.Core.Path.{_≡_, refl, _∙_}
 use native.Mathlib.Omega.{arith}
 use lib.ListN.{length, length-set}
-use Rattle.search.specs.Codes.{Coded}
+use Rattle.search.specs.Inside.Codes.{Coded}
 use Rattle.search.proofs.CodeLaws.{witness-inside, none-coded, one-coded, all-coded}
 use borrow.Author.Needs.{needs}
 use Rattle.search.proofs.codes.write_codes.Statement.{statement}

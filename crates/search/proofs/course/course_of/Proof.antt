@@ -6,7 +6,7 @@ use native.Mathlib.Omega.{arith}
 use denote.Ref.{now}
 use mir.Facts.{toZ-ofZ}
 use Rattle.order.specs.Relations.{rel}
-use Rattle.search.specs.Courses.{Steady}
+use Rattle.search.specs.Inside.Courses.{Steady}
 use Rattle.search.proofs.SteadyLaws.{goes-one-way, no-witness, single-steady}
 use borrow.Author.Needs.{needs, sfits-of}
 use Rattle.search.proofs.course.course_of.Statement.{statement}

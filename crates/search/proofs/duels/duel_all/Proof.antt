@@ -60,7 +60,7 @@ meet-requires c κs =
     let below = kept-below (w .windows .inv) (l .loop .kept - 1) (omega arith) in
     record {
       own = s .pre .0 .own;
-      coded = s .pre .1;
+      codes = s .pre .1;
       later = omega arith;
       inside = inside (length (now (s .args .pattern))) (length (now (s .args .trace))) (s .args .windows) (w .windows .y) (s .pre .0 .number) (l .before .windows-test .taken);
     }

@@ -4,7 +4,7 @@ use Prim.Native.Nat.{_-_}
 use mathlib.Core.Path.{refl, sym, _∙_, ap₂}
 use native.Mathlib.Omega.{arith}
 use denote.Ref.{now}
-use Rattle.search.specs.Codes.{ownCode}
+use Rattle.search.specs.Inside.Codes.{ownCode}
 use Rattle.search.proofs.MeetingByTable.{far-agree, by-offset, none-agrees, some-duels, duelable, meeting-told}
 use borrow.Author.Needs.{needs}
 use Rattle.search.proofs.duels.meet.Statement.{statement}
@@ -43,13 +43,13 @@ wide16-requires-2 c κs = search needs
 
 shared-slice-read-duel : tie.Need-shared-slice-read-duel
 shared-slice-read-duel c =
-    let l = c .before .before .before .before .before .before .before .before .before .before .before .before .before .pre .coded .olders-long in
+    let l = c .before .before .before .before .before .before .before .before .before .before .before .before .before .pre .codes .olders-long in
     let h = c .before .before .before .before .before .before .if1 .left in
     omega arith
 
 shared-slice-read-duel-2 : tie.Need-shared-slice-read-duel-2
 shared-slice-read-duel-2 c =
-    let l = c .before .before .before .before .before .before .before .before .before .before .before .before .before .before .pre .coded .newers-long in
+    let l = c .before .before .before .before .before .before .before .before .before .before .before .before .before .before .pre .codes .newers-long in
     let h = c .before .before .before .before .before .before .before .if1 .left in
     omega arith
 
@@ -63,8 +63,8 @@ duel-requires c κs =
     let j = c .before .before .wide162 .ensures in
     let f = some-duels (by-offset (now (s .args .trace)) (s .args .x .0) (s .args .y .0) (s .args .y .0 - s .args .x .0) (s .pre .own) refl near) some in (
       duelable f refl i j (s .pre .inside),
-      s .pre .coded .older-told a near some ∙ ap₂ (ownCode (now (s .args .pattern)) a) (sym i) (sym j),
-      s .pre .coded .newer-told a near some ∙ ap₂ (ownCode (now (s .args .pattern)) 0) (sym i) (sym j),
+      s .pre .codes .older-told a near some ∙ ap₂ (ownCode (now (s .args .pattern)) a) (sym i) (sym j),
+      s .pre .codes .newer-told a near some ∙ ap₂ (ownCode (now (s .args .pattern)) 0) (sym i) (sym j),
     )
 
 returns-3 : tie.Need-returns-3

@@ -6,8 +6,8 @@ use borrow.Author.Needs.{needs}
 use Rattle.search.proofs.searching.check_search.Statement.{statement}
 use Rattle.search.proofs.searching.check_search.Tie as tie
 
-lengths-requires : tie.Need-lengths-requires
-lengths-requires c κs = search needs
+for-search-requires : tie.Need-for-search-requires
+for-search-requires c κs = search needs
 
 enum-known-why : tie.Need-enum-known-why
 enum-known-why c = search needs
@@ -28,27 +28,27 @@ returns : tie.Need-returns
 returns c =
     let a = c .before .before .before .before .before .before .before .before .args in
     unfit-refused (now (a .pattern)) (now (a .low)) (now (a .high)) (now (a .witness-i)) (now (a .witness-j)) (now (a .trace)) (a .survivors) (a .positions)
-    (c .before .why .given .1) (c .before .before .before .lengths .ensures)
+    (c .before .why .given .1) (c .before .before .before .for-search .ensures)
 
 returns-2 : tie.Need-returns-2
 returns-2 c =
     let a = c .before .before .before .before .before .before .before .before .before .before .before .before .args in
     foreign-refused (now (a .pattern)) (now (a .low)) (now (a .high)) (now (a .witness-i)) (now (a .witness-j)) (now (a .trace)) (a .survivors) (a .positions)
-    (c .before .before .before .before .before .windows .given .1) (c .before .before .before .before .before .before .before .lengths .ensures)
+    (c .before .before .before .before .before .windows .given .1) (c .before .before .before .before .before .before .before .for-search .ensures)
     (c .before .why2 .given .1) (c .before .before .before .check-tables .ensures)
 
 returns-3 : tie.Need-returns-3
 returns-3 c =
     let a = c .before .before .before .before .before .before .before .before .before .before .before .args in
     all-fine (now (a .pattern)) (now (a .low)) (now (a .high)) (now (a .witness-i)) (now (a .witness-j)) (now (a .trace)) (a .survivors) (a .positions)
-    (c .before .before .before .before .windows .given .1) (c .before .before .before .before .before .before .lengths .ensures)
+    (c .before .before .before .before .windows .given .1) (c .before .before .before .before .before .before .for-search .ensures)
     (c .enum-told .given .1) (c .before .before .check-tables .ensures)
 
 pub check-search-spec : {M : Type 1} → statement M
 check-search-spec =
     tie.close
     (tie.spec
-    lengths-requires
+    for-search-requires
     enum-known-why
     enum-known-windows
     check-tables-requires

@@ -15,8 +15,8 @@ sweep-steady-requires c κs =
 enum-told : tie.Need-enum-told
 enum-told c = search needs
 
-sweep-all-requires : tie.Need-sweep-all-requires
-sweep-all-requires c κs = search needs
+sweep-mixed-requires : tie.Need-sweep-mixed-requires
+sweep-mixed-requires c κs = search needs
 
 same-length : tie.Need-same-length
 same-length c = search needs
@@ -37,7 +37,7 @@ sweep-windows-spec =
     enum-known-course
     sweep-steady-requires
     enum-told
-    sweep-all-requires
+    sweep-mixed-requires
     same-length
     returns
     same-length-2

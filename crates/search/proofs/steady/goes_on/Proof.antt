@@ -8,7 +8,7 @@ use native.Mathlib.Omega.{arith}
 use mir.Facts.{toZ-ofZ}
 use Rattle.order.specs.Relations.{rel, alike}
 use Rattle.order.proofs.Tests.{and-first, and-second}
-use Rattle.search.specs.Runs.{GoesOn}
+use Rattle.search.specs.Inside.Runs.{block, GoesOn}
 use Rattle.search.proofs.RunLaws.{goes-nowhere, goes-further}
 use borrow.Author.Needs.{needs, sfits-of}
 use Rattle.search.proofs.steady.goes_on.Statement.{statement}
@@ -18,7 +18,7 @@ abbrev Inv-loop : tie.InvT-loop
 Inv-loop trace e way all₀ k₀ all k = (all ≡ true → GoesOn trace e k way)
 
 abbrev μ-loop : tie.MeasureT-loop
-μ-loop trace e way all₀ k₀ all k = 64 - k
+μ-loop trace e way all₀ k₀ all k = block - k
 
 loop-holds : tie.Need-loop-holds Inv-loop μ-loop
 loop-holds c = λ h. goes-nowhere _ _ _

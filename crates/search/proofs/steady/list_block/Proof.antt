@@ -7,7 +7,7 @@ use native.Mathlib.Nat.{le-antisymm}
 use native.Mathlib.Omega.{arith}
 use denote.Ref.{now}
 use lib.ListN.{length, length-set, getD, set}
-use Rattle.search.specs.Runs.{listedRun}
+use Rattle.search.specs.Inside.Runs.{block, listedRun}
 use Rattle.search.proofs.RunLaws.{listed-none, listed-more}
 use borrow.Author.Needs.{needs}
 use Rattle.search.proofs.steady.list_block.Statement.{statement}
@@ -15,10 +15,10 @@ use Rattle.search.proofs.steady.list_block.Tie as tie
 
 abbrev Inv-loop : tie.InvT-loop
 Inv-loop survivors k positions₀ found i₀ positions i =
-    (i ≤ 64) × (length positions ≡ length positions₀) × (positions ≡ listedRun survivors k found i positions₀)
+    (i ≤ block) × (length positions ≡ length positions₀) × (positions ≡ listedRun survivors k found i positions₀)
 
 abbrev μ-loop : tie.MeasureT-loop
-μ-loop survivors k positions₀ found i₀ positions i = 64 - i
+μ-loop survivors k positions₀ found i₀ positions i = block - i
 
 loop-holds : tie.Need-loop-holds Inv-loop μ-loop
 loop-holds c = (omega arith, refl, sym (listed-none _ _ _ _))

@@ -1,20 +1,21 @@
--- `look_ahead` meets its contract: 64 survivors from the first to the last start one after the other if these lie 63 apart, and each
--- passes its last place if that is free or the samples go on.
+-- `look_ahead` meets its contract: a block's survivors start one after the other if the first and the last lie as far apart as there are
+-- others, and each passes its last place if that is free or the samples go on.
 -- Assumes nothing.
-use Prim.Native.Nat.{_+_}
+use Prim.Native.Nat.{_+_, _-_}
 use mathlib.Core.Path.{_≡_, refl, sym, _∙_, ap}
 use native.Mathlib.Omega.{arith}
 use denote.Ref.{now}
 use lib.ListN.{length, getD}
+use Rattle.search.specs.Inside.Runs.{block}
 use Rattle.search.proofs.RunLaws.{all-inside, free-block, stepped-block, no-block}
 use borrow.Author.Needs.{needs}
 use Rattle.search.proofs.steady.look_ahead.Statement.{statement}
 use Rattle.search.proofs.steady.look_ahead.Tie as tie
 
--- the last of the 64 starts 63 samples after the first
-apart : (c : tie.Else3) → getD (now (c .before .before .before .before .before .before .before .before .args .survivors)) (c .before .before .before .before .before .before .before .before .args .k + 63) 0 ≡
-    getD (now (c .before .before .before .before .before .before .before .before .args .survivors)) (c .before .before .before .before .before .before .before .before .args .k) 0 + 63
-apart c = sym (c .before .before .wide322 .ensures .0) ∙ c .before .if2 .left ∙ ap (λ x. x + 63) (c .before .before .before .before .before .wide32 .ensures .0)
+-- the last of a block starts so many samples after the first
+apart : (c : tie.Else3) → getD (now (c .before .before .before .before .before .before .before .before .args .survivors)) (c .before .before .before .before .before .before .before .before .args .k + (block - 1)) 0 ≡
+    getD (now (c .before .before .before .before .before .before .before .before .args .survivors)) (c .before .before .before .before .before .before .before .before .args .k) 0 + (block - 1)
+apart c = sym (c .before .before .wide322 .ensures .0) ∙ c .before .if2 .left ∙ ap (λ x. x + (block - 1)) (c .before .before .before .before .before .wide32 .ensures .0)
 
 -- and the first has its last place alone left
 at-last : (c : tie.Else3) → c .before .before .before .before .before .before .before .before .args .reach + 1 ≡
@@ -61,7 +62,7 @@ returns-2 c =
     let t = c .if2 .taken in
     let x = c .before .before .before .before .wide32 .ensures .0 in
     let y = c .before .wide322 .ensures .0 in
-    no-block _ _ _ _ _ _ (c .before .before .before .before .before .before .before .pre .2) (λ b. t (y ∙ b .apart ∙ sym (ap (λ x. x + 63) x)))
+    no-block _ _ _ _ _ _ (c .before .before .before .before .before .before .before .pre .2) (λ b. t (y ∙ b .apart ∙ sym (ap (λ x. x + (block - 1)) x)))
 
 add-if3 : tie.Need-add-if3
 add-if3 c = search needs
@@ -81,9 +82,9 @@ returns-4 c =
     let s = c .before .before .before .before .before .before .before .before .before in
     let far = c .before .before .before .before .before .if1 .left in
     record {
-      passing = λ e. free-block (s .pre .1) (s .args .k) _ 63 refl far (apart (c .before)) (at-last (c .before)) (c .if4 .taken);
+      passing = λ e. free-block (s .pre .1) (s .args .k) _ (block - 1) refl far (apart (c .before)) (at-last (c .before)) (c .if4 .taken);
       looked = λ b many. let one = c .if4 .taken in absurd (omega (arith, one));
-      block = omega arith;
+      few = omega arith;
       ahead = omega arith;
     }
 
@@ -94,11 +95,14 @@ goes-on-requires : tie.Need-goes-on-requires
 goes-on-requires c κs =
     let s = c .before .before .before .before .before .before .before .before .before in
     let far = c .before .before .before .before .before .if1 .left in
-    let i = all-inside (s .pre .1) (s .args .k) _ 63 refl far (apart (c .before)) in
+    let i = all-inside (s .pre .1) (s .args .k) _ (block - 1) refl far (apart (c .before)) in
     let l = at-last (c .before) in
     let some = s .pre .0 .some in
     let many = c .if4 .left in
     (omega (arith, many), s .pre .1 .trace)
+
+cast-t13 : tie.Need-cast-t13
+cast-t13 c = search needs
 
 returns-5 : tie.Need-returns-5
 returns-5 c =
@@ -108,9 +112,9 @@ returns-5 c =
     let some = s .pre .0 .some in
     let many = c .before .if4 .left in
     record {
-      passing = λ e. stepped-block (s .pre .1) (s .args .k) _ 63 refl far (apart (c .before .before)) (s .pre .0) (omega (arith, many)) l (omega (arith, many)) (c .goes-on .ensures e);
+      passing = λ e. stepped-block (s .pre .1) (s .args .k) _ (block - 1) refl far (apart (c .before .before)) (s .pre .0) (omega (arith, many)) l (omega (arith, many)) (c .goes-on .ensures e);
       looked = λ b many. refl;
-      block = omega arith;
+      few = omega arith;
       ahead = omega arith;
     }
 
@@ -136,4 +140,5 @@ look-ahead-spec =
     returns-4
     sub-goes-on
     goes-on-requires
+    cast-t13
     returns-5)

@@ -6,7 +6,7 @@ use mathlib.Core.Path.{subst}
 use native.Mathlib.Nat.{le-antisymm}
 use native.Mathlib.Omega.{arith}
 use denote.Ref.{now}
-use Rattle.search.specs.Sweeps.{SweptTo}
+use Rattle.search.specs.Inside.Sweeps.{SweptTo}
 use Rattle.search.proofs.SweepSteps.{next-swept, entry-of, rows-number, rows-few, rows-inside, swept-as}
 use borrow.Author.Needs.{needs}
 use Rattle.search.proofs.steady.steady_some.Statement.{statement}
@@ -39,9 +39,9 @@ climb-requires c κs =
     let s = c .before .before .before .before .before .before .before in
     let l = c .before .before .before .before .loop in
     let h = c .before .before .before .loop-test .taken in
-    let b = l .inv .1 .bound in
-    let r = l .inv .1 .reached in
-    let w = l .inv .1 .within in
+    let b = l .inv .1 .so-far .bound in
+    let r = l .inv .1 .so-far .reached in
+    let w = l .inv .1 .so-far .within in
     let rows = s .pre .0 .rows in
     let t = rows .trace in
     let to = s .pre .2 in
@@ -54,8 +54,8 @@ list-one-requires : tie.Need-list-one-requires Inv-loop μ-loop
 list-one-requires c κs =
     let s = c .before .before .before .before .before .before .before .before .before in
     let i = c .before .before .before .before .before .before .loop .inv .1 in
-    let f = i .few in
-    let l = i .long in
+    let f = i .so-far .few in
+    let l = i .so-far .long in
     let h = c .before .before .before .before .before .loop-test .taken in
     let to = s .pre .2 in
     let r = s .pre .0 .room in
@@ -84,7 +84,7 @@ loop-again c =
     )
 
 same-length : tie.Need-same-length Inv-loop μ-loop
-same-length c = c .before .loop .inv .1 .long
+same-length c = c .before .loop .inv .1 .so-far .long
 
 returns : tie.Need-returns Inv-loop μ-loop
 returns c =

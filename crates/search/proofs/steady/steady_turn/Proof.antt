@@ -7,8 +7,10 @@ use mathlib.Core.Logic.{inl, inr}
 use native.Mathlib.Omega.{arith}
 use denote.Ref.{now}
 use lib.ListN.{length}
-use Rattle.search.specs.Runs.{listedRun}
-use Rattle.search.specs.Sweeps.{SweptTo}
+use Rattle.order.specs.Sizes.{traceLimit}
+use Rattle.search.specs.Inside.Asked.{spentLimit}
+use Rattle.search.specs.Inside.Runs.{block, listedRun}
+use Rattle.search.specs.Inside.Sweeps.{SweptTo}
 use Rattle.search.proofs.SweepSteps.{rows-few}
 use Rattle.search.proofs.RunLaws.{run-swept}
 use borrow.Author.Needs.{needs}
@@ -18,20 +20,20 @@ use Rattle.search.proofs.steady.steady_turn.Tie as tie
 -- the block, where there is one, listed and swept
 block-swept : (c : tie.Then1) →
     SweptTo (now (c .before .before .before .before .args .pattern)) (now (c .before .before .before .before .args .trace)) (c .before .before .before .before .args .kept) (now (c .before .before .before .before .args .positions))
-    (listedRun (now (c .before .before .before .before .args .survivors)) (c .before .before .before .before .args .k) (c .before .before .before .before .args .before .found) 64 (now (c .before .before .before .before .args .positions)))
-    (c .before .before .before .before .args .k + 64) (c .before .before .before .before .args .before .reach + 64) (c .before .before .before .before .args .before .spent + c .before .look-ahead .result .made) (c .before .before .before .before .args .before .found + 64)
+    (listedRun (now (c .before .before .before .before .args .survivors)) (c .before .before .before .before .args .k) (c .before .before .before .before .args .before .found) block (now (c .before .before .before .before .args .positions)))
+    (c .before .before .before .before .args .k + block) (c .before .before .before .before .args .before .reach + block) (c .before .before .before .before .args .before .spent + c .before .look-ahead .result .made) (c .before .before .before .before .args .before .found + block)
 block-swept c =
     let p = c .before .before .before .before .pre in
     run-swept (c .before .look-ahead .ensures .passing (c .if1 .taken)) (p .0 .rows) (p .0 .steady .some) (p .0 .room) (p .2)
 
 -- and its numbers are small
-block-small : (c : tie.Then1) → (c .before .before .before .before .args .k + 64 ≤ 65537) × (c .before .before .before .before .args .before .reach + 64 ≤ 65536) × (c .before .before .before .before .args .before .spent + c .before .look-ahead .result .made ≤ 1000000) × (c .before .before .before .before .args .before .found + 64 ≤ 65537)
+block-small : (c : tie.Then1) → (c .before .before .before .before .args .k + block ≤ traceLimit + 1) × (c .before .before .before .before .args .before .reach + block ≤ traceLimit) × (c .before .before .before .before .args .before .spent + c .before .look-ahead .result .made ≤ spentLimit) × (c .before .before .before .before .args .before .found + block ≤ traceLimit + 1)
 block-small c =
     let t = block-swept c in
-    let w = t .within in
-    let f = t .few in
-    let r = t .reached in
-    let b = t .bound in
+    let w = t .so-far .within in
+    let f = t .so-far .few in
+    let r = t .so-far .reached in
+    let b = t .so-far .bound in
     let n = c .before .before .before .before .pre .0 .rows .trace in
     let m = rows-few (c .before .before .before .before .pre .0 .rows) in
     (omega arith, omega arith, omega arith, omega arith)
@@ -39,14 +41,14 @@ block-small c =
 look-ahead-requires : tie.Need-look-ahead-requires
 look-ahead-requires c κs =
     let p = c .before .before .pre in
-    (p .0 .steady, p .0 .rows, p .1, p .2 .reached)
+    (p .0 .steady, p .0 .rows, p .1, p .2 .so-far .reached)
 
 list-block-requires : tie.Need-list-block-requires
 list-block-requires c κs =
     let p = c .before .before .before .before .before .pre .0 in
     let t = block-swept (c .before) in
-    let w = t .within in
-    let f = t .few in
+    let w = t .so-far .within in
+    let f = t .so-far .few in
     let k = p .rows .kept-long in
     let l = p .room in
     (omega arith, omega arith)
@@ -64,12 +66,12 @@ add-t21 : tie.Need-add-t21
 add-t21 c = let h = block-small (c .before .before .before .before .before .before) in omega arith
 
 same-length : tie.Need-same-length
-same-length c = ap length (c .before .before .before .before .list-block .ensures) ∙ block-swept (c .before .before .before .before .before .before) .long
+same-length c = ap length (c .before .before .before .before .list-block .ensures) ∙ block-swept (c .before .before .before .before .before .before) .so-far .long
 
 returns : tie.Need-returns
 returns c =
     let a = c .before .before .before .before .before .before .before .look-ahead .ensures in
-    let q = a .block in
+    let q = a .few in
     record {
       swept-on = rw (c .before .before .before .before .list-block .ensures) (block-swept (c .before .before .before .before .before .before));
       onward = omega arith;
@@ -97,7 +99,7 @@ returns-2 : tie.Need-returns-2
 returns-2 c =
     let s = c .before .before .before .before .before .before .before .before .before in
     let a = c .before .before .before .before .before .before .look-ahead .ensures in
-    let q = a .block in
+    let q = a .few in
     let d = a .ahead in
     let h = s .pre .1 in
     let e = c .before .before .steady-some .ensures in

@@ -6,7 +6,7 @@ use mathlib.Core.Path.{_∙_}
 use native.Mathlib.Omega.{arith}
 use denote.Ref.{now}
 use lib.ListN.{length}
-use Rattle.search.specs.Sweeps.{SweptTo, Turned, first, turn}
+use Rattle.search.specs.Inside.Sweeps.{SweptTo, Turned, first, turn}
 use Rattle.search.proofs.SweepSteps.{none-swept, from-here, from-there, all-swept, rows-number, rows-few}
 use borrow.Author.Needs.{needs}
 use Rattle.search.proofs.steady.sweep_steady.Statement.{statement}
@@ -33,7 +33,7 @@ loop-holds c =
     let s = c .before .before .before .before .before .before .before in
     let e = c .before .before .steady-some .ensures in
     let g = e .1 in
-    let l = e .0 .long in
+    let l = e .0 .so-far .long in
     let r = s .pre .room in
     (from-here (e .0), omega arith, omega arith, first (e .0) (omega arith))
 
@@ -41,7 +41,7 @@ steady-turn-requires : tie.Need-steady-turn-requires Inv-loop μ-loop
 steady-turn-requires c κs =
     let s = c .before .before .before .before .before .before .before .before .before .before in
     let l = c .before .before .loop in
-    let h = l .inv .0 .long in
+    let h = l .inv .0 .so-far .long in
     let p = l .inv .2 in
     (record { steady = s .pre .steady; rows = s .pre .rows; room = omega arith }, c .before .loop-test .taken, from-here (l .inv .0))
 
@@ -52,8 +52,8 @@ few-made : (c : tie.At-loop Inv-loop μ-loop) →
 few-made c =
     let s = c .before .before .before .before .before .before .before .before in
     let i = c .loop .inv .1 in
-    let r = c .loop .inv .0 .reached in
-    let w = c .loop .inv .0 .within in
+    let r = c .loop .inv .0 .so-far .reached in
+    let w = c .loop .inv .0 .so-far .within in
     let n = s .pre .rows .trace in
     let m = rows-few (s .pre .rows) in
     (omega arith, omega arith)
@@ -63,15 +63,15 @@ add-wasted c =
     let f = few-made (c .before .before .before .before .before .before .before) in
     let t = c .before .before .before .before .steady-turn .ensures in
     let g = t .cheap in
-    let q = t .swept-on .reached in
-    let v = t .swept-on .within in
+    let q = t .swept-on .so-far .reached in
+    let v = t .swept-on .so-far .within in
     omega (arith, f .0, f .1)
 
 loop-less : tie.Need-loop-less Inv-loop μ-loop
 loop-less c =
     let t = c .before .before .before .before .steady-turn .ensures in
     let o = t .onward in
-    let v = t .swept-on .within in
+    let v = t .swept-on .so-far .within in
     omega arith
 
 loop-again : tie.Need-loop-again Inv-loop μ-loop
@@ -84,7 +84,7 @@ loop-again c =
     (from-there (l .loop .inv .0) (t .swept-on), omega (arith, f .0, f .1), l .loop .inv .2, turn (l .loop .inv .3) t)
 
 same-length : tie.Need-same-length Inv-loop μ-loop
-same-length c = c .before .loop .inv .0 .long ∙ c .before .before .before .before .steady-some .ensures .0 .long
+same-length c = c .before .loop .inv .0 .so-far .long ∙ c .before .before .before .before .steady-some .ensures .0 .so-far .long
 
 returns : tie.Need-returns Inv-loop μ-loop
 returns c =

@@ -5,9 +5,10 @@ use Prim.Native.Nat.{ℕ, _≤_, _<_, _-_}
 use mathlib.Core.Path.{_≡_, refl}
 use native.Mathlib.Omega.{arith}
 use borrow.Author.Count.{below-more}
+use borrow.Author.Tests.{not-false}
 use lib.ListN.{length, getD}
 use Rattle.order.proofs.Tests.{clash}
-use Rattle.tables.specs.Claims.{OwnEntries}
+use Rattle.tables.specs.Inside.Claims.{OwnEntries}
 use borrow.Author.Needs.{needs}
 use Rattle.tables.proofs.claimed.neighbours_fit.Statement.{statement}
 use Rattle.tables.proofs.claimed.neighbours_fit.Tie as tie
@@ -48,7 +49,7 @@ loop-less c = search needs
 loop-again : tie.Need-loop-again Inv-loop μ-loop
 loop-again c =
     let l = c .before .before .before .before .before .loop in
-    (omega arith, refl, below-more _ _ (l .inv .2) (c .before .place-fits .ensures (c .if1 .taken)))
+    (omega arith, refl, below-more _ _ (l .inv .2) (c .before .place-fits .ensures (not-false _ (c .if1 .left))))
 
 returns-2 : tie.Need-returns-2 Inv-loop μ-loop
 returns-2 c e =

@@ -12,7 +12,7 @@ use denote.Ref.{now}
 use mir.Facts.{toZ-ofZ}
 use Rattle.order.specs.Sizes.{at}
 use Rattle.order.proofs.Tests.{and-first, and-second}
-use Rattle.tables.specs.Claims.{Outside}
+use Rattle.tables.specs.Inside.Claims.{Outside}
 use borrow.Author.Needs.{needs, sfits-of}
 use Rattle.tables.proofs.claimed.none_within.Statement.{statement}
 use Rattle.tables.proofs.claimed.none_within.Tie as tie

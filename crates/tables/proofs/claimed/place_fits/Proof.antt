@@ -4,7 +4,7 @@ use mathlib.Core.Path.{refl, subst}
 use native.Mathlib.Omega.{arith}
 use denote.Ref.{now}
 use Rattle.order.proofs.Tests.{clash, and-first, and-second}
-use Rattle.tables.specs.Claims.{OwnEntries}
+use Rattle.tables.specs.Inside.Claims.{OwnEntries}
 use Rattle.tables.proofs.ClaimLaws.{between-entries}
 use borrow.Author.Needs.{needs}
 use Rattle.tables.proofs.claimed.place_fits.Statement.{statement}

@@ -8,7 +8,7 @@ use mir.Val.{toZ}
 use mir.Facts.{toZ-ofZ}
 use Rattle.order.specs.Sizes.{none, place}
 use Rattle.order.proofs.Entries.{entry-of-none, entry-of-place}
-use Rattle.tables.specs.Claims.{NoneWithin}
+use Rattle.tables.specs.Inside.Claims.{NoneWithin}
 use Rattle.tables.proofs.NearestByValue.{unequal-outside, within-back}
 use borrow.Author.Needs.{needs, sfits-of}
 use Rattle.tables.proofs.neighbours.last_equal.Statement.{statement}
@@ -45,7 +45,7 @@ returns c =
     let i = l .loop .i in
     record {
       spot = place (i - 1);
-      told = sym (entry-of-place (i - 1));
+      entry-is = sym (entry-of-place (i - 1));
       last = (
         omega arith,
         sym (toZ-ofZ (sfits-of (c .before .if12 .given))) ∙ ap (toZ w32) (c .if1 .taken) ∙ toZ-ofZ (s .fits .v),
@@ -72,7 +72,7 @@ returns-2 c =
     let s = l .before .before in
     record {
       spot = none;
-      told = sym entry-of-none;
+      entry-is = sym entry-of-none;
       last = record { clear = λ k g h. rw (toZ-ofZ (s .fits .v)) at (l .loop .inv .1 .clear k (omega arith) h) };
     }
 

@@ -5,7 +5,7 @@ use native.Mathlib.Omega.{arith}
 use mir.Syntax.{w32}
 use mir.Val.{toZ}
 use mir.Facts.{toZ-ofZ}
-use Rattle.tables.specs.Claims.{NoneWithin}
+use Rattle.tables.specs.Inside.Claims.{NoneWithin}
 use Rattle.tables.proofs.NearestByValue.{within-joined}
 use borrow.Author.Needs.{needs}
 use Rattle.tables.proofs.neighbours.pass_over.Statement.{statement}

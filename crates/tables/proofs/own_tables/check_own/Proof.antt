@@ -1,6 +1,6 @@
 -- `check_own` meets its contract.
 -- Assumes nothing.
-use Rattle.tables.proofs.VerdictRows.{own-foreign, own-fine}
+use Rattle.tables.proofs.ForeignEntries.{own-foreign, own-fine}
 use borrow.Author.Needs.{needs}
 use Rattle.tables.proofs.own_tables.check_own.Statement.{statement}
 use Rattle.tables.proofs.own_tables.check_own.Tie as tie

@@ -1,14 +1,14 @@
 -- `prepare` meets its contract: the sizes' verdict, and then the tables.
 -- Assumes nothing.
 use mathlib.Core.Path.{sym, _∙_}
-use Rattle.tables.proofs.Verdicts.{fine-accepted, prepare-room}
+use Rattle.sizes.proofs.Verdicts.{fine-accepted, prepare-room}
 use Rattle.tables.proofs.Promised.{prepare-refused, prepare-done}
 use borrow.Author.Needs.{needs}
 use Rattle.tables.proofs.preparation.prepare.Statement.{statement}
 use Rattle.tables.proofs.preparation.prepare.Tie as tie
 
-check-prepare-requires : tie.Need-check-prepare-requires
-check-prepare-requires c κs = search needs
+for-tables-requires : tie.Need-for-tables-requires
+for-tables-requires c κs = search needs
 
 enum-known-why : tie.Need-enum-known-why
 enum-known-why c = search needs
@@ -18,10 +18,10 @@ enum-told c = search needs
 
 write-tables-requires : tie.Need-write-tables-requires
 write-tables-requires c κs =
-    prepare-room _ _ _ _ _ (fine-accepted _ (sym (c .before .before .before .before .enum-told .given .1) ∙ c .before .before .before .before .before .before .check-prepare .ensures))
+    prepare-room _ _ _ _ _ (fine-accepted _ (sym (c .before .before .before .before .enum-told .given .1) ∙ c .before .before .before .before .before .before .for-tables .ensures))
 
 returns : tie.Need-returns
-returns c = prepare-refused _ _ _ _ _ _ (sym (c .before .why .given .1) ∙ c .before .before .before .check-prepare .ensures)
+returns c = prepare-refused _ _ _ _ _ _ (sym (c .before .why .given .1) ∙ c .before .before .before .for-tables .ensures)
 
 same-length : tie.Need-same-length
 same-length c = search needs
@@ -37,14 +37,14 @@ same-length-4 c = search needs
 
 returns-2 : tie.Need-returns-2
 returns-2 c =
-    prepare-done _ _ _ _ _ (sym (c .before .before .before .before .before .before .before .before .before .before .before .before .before .enum-told .given .1) ∙ c .before .before .before .before .before .before .before .before .before .before .before .before .before .before .before .check-prepare .ensures)
+    prepare-done _ _ _ _ _ (sym (c .before .before .before .before .before .before .before .before .before .before .before .before .before .enum-told .given .1) ∙ c .before .before .before .before .before .before .before .before .before .before .before .before .before .before .before .for-tables .ensures)
     (c .before .before .before .before .before .before .before .before .write-tables .ensures)
 
 pub prepare-spec : {M : Type 1} → statement M
 prepare-spec =
     tie.close
     (tie.spec
-    check-prepare-requires
+    for-tables-requires
     enum-known-why
     enum-told
     write-tables-requires

@@ -11,7 +11,7 @@ use lib.IntN.{ℤ}
 use lib.ListN.{length, drop}
 use Rattle.order.specs.declared.steps.Tested.the-variants.{Passed, Failed}
 use Rattle.order.specs.PlaceTest.{testOf}
-use Rattle.tables.specs.Asked.{KnownBelow}
+use Rattle.tables.specs.Inside.Asked.{KnownBelow}
 use Rattle.tables.proofs.Offsets.{rest-length, own-test, known-more, known-all, known-fails, failed-before}
 use Rattle.tables.proofs.witnesses.witness_from.Statement.{statement}
 use Rattle.tables.proofs.witnesses.witness_from.Tie as tie

@@ -1,0 +1,16 @@
+// What a row of conditions comes to. Follows docs/RULES.md, "Refusals": specs/Answers.antt gives each case its number and place. These
+// are types alone.
+
+use order::Refusal;
+
+// Nothing to refuse, or why the call is refused.
+pub enum Checked {
+    Fine,
+    Refused(Refusal),
+}
+
+// The same of a search's lengths, which tell the number of windows too.
+pub enum Fitting {
+    Fit(usize),
+    Refused(Refusal),
+}

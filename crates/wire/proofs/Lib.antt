@@ -1,5 +1,0 @@
--- The laws that the functions' proofs cite, in the order of the argument, and what callers need.
-pub mod Digits
-pub mod ReadBack
-pub mod Numbers
-pub mod Handing
