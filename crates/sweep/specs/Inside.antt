@@ -11,9 +11,9 @@ use Rattle.order.specs.Written.{over}
 use Rattle.order.specs.Sweeping.{swept, tests, sweepAll}
 use Rattle.sweep.specs.Sweeps.{placesOf, sweptOf}
 
--- no sweep of lists that a machine of 64 bits holds spends more
-abbrev pub spentLimit : ℕ
-spentLimit = 9223372036854775808
+-- no sweep of lists that a machine of 64 bits holds spends more; far from where a count would not fit
+abbrev pub countLimit : ℕ
+countLimit = 9223372036854775808
 
 -- window x of m places lies in the trace, with so much spent before its tests begin at sample `from`
 pub record Testable (low high : List ℕ) (m : ℕ) (T : List ℤ) (x from before : ℕ) : Type 0 where
@@ -21,7 +21,7 @@ pub record Testable (low high : List ℕ) (m : ℕ) (T : List ℤ) (x from befor
   pub inside : x + m ≤ length T
   pub begun : x ≤ from
   pub reached : from ≤ length T
-  pub small : before ≤ spentLimit
+  pub small : before ≤ countLimit
 
 -- the tests of window x from sample `from` on, of m places, have come to `reach`, and it passed all or failed there
 pub record SweptOne (test : ℕ → ℕ → Tested) (m x from before reach spent : ℕ) (whole : Bool) : Type 0 where
