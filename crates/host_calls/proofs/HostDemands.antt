@@ -18,7 +18,7 @@ use Rattle.order.proofs.SweepLaws.{sweep-cost}
 use Rattle.order.proofs.Whole.{demands-hold}
 use Rattle.search.proofs.WrittenOut.{positions-few}
 use Rattle.words.specs.Bytes.{wordsIn}
-use Rattle.host_calls.specs.Results.{countsList}
+use Rattle.host_answers.specs.Results.{countsList}
 use Rattle.words.proofs.ReadBack.{Words, words-below, words-first, words-back}
 use Rattle.host_calls.specs.HostPromises.{keptBytes, listedBytes, countBytes, keptRead, listedRead}
 

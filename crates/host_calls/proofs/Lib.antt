@@ -1,6 +1,4 @@
 -- The laws that the functions' proofs cite, in the order of the argument.
-pub mod Numbers
-pub mod HandedOut
 pub mod PrepareLaws
 pub mod HostDemands
 pub mod SearchingLaws

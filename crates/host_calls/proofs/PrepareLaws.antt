@@ -23,7 +23,7 @@ use Rattle.tables.specs.Promises.{PreparePromise, sizesVerdict}
 use Rattle.sizes.specs.Answers.{checkedBy}
 use Rattle.sizes.proofs.Verdicts.{fine-accepted, refused-why, prepare-room}
 use Rattle.words.specs.Bytes.{samplesIn, bytesOf}
-use Rattle.host_calls.specs.Results.{refusalResult}
+use Rattle.host_answers.specs.Results.{refusalResult}
 use Rattle.words.specs.Handed.{entriesPut}
 use Rattle.words.proofs.Handing.{over-front, entries-put}
 use Rattle.host_calls.specs.HostPromises.{HostPrepare, prepareCase}

@@ -5,7 +5,7 @@
 use Prim.Native.Nat.{ℕ, zero, suc, _-_, _/_, _≤_, _<_}
 use mathlib.Core.Path.{_≡_, refl, sym, _∙_, ap, ap₂}
 use mathlib.Core.List.{List, _++_}
-use mathlib.Core.Bool.{Bool, true, false, cond}
+use mathlib.Core.Bool.{Bool, cond}
 use native.Mathlib.Omega.{arith}
 use native.Mathlib.Nat.{sub-zero}
 use lib.IntN.{ℤ}
@@ -35,12 +35,13 @@ use Rattle.sizes.proofs.VerdictRows.{sizes, sizes-row, room-row}
 use Rattle.search.proofs.WrittenOut.{positions-few}
 use Rattle.search.proofs.SearchLaws.{search-ready}
 use Rattle.words.specs.Bytes.{firstEntries, samplesIn, entriesIn, bytesOf}
-use Rattle.host_calls.specs.Results.{resultOf, refusalResult, countsList}
+use Rattle.host_answers.specs.Results.{resultOf, refusalResult, countsList}
 use Rattle.words.specs.Handed.{entriesTaken, wordsPut}
-use Rattle.host_calls.proofs.Numbers.{only-accepted}
+use Rattle.host_answers.proofs.Numbers.{only-accepted}
 use Rattle.words.proofs.Handing.{entries-taken, words-put}
 use Rattle.host_calls.specs.HostPromises.{HostSearch, searchCase, keptBytes, listedBytes, countBytes}
-use Rattle.host_calls.specs.Inside.{Fits, Arrays, AnswerPut}
+use Rattle.host_calls.specs.Inside.{Fits, Arrays}
+use Rattle.host_answers.specs.Answers.{AnswerPut}
 use Rattle.host_calls.proofs.HostDemands.{counts-back, demands-back}
 
 -- ---- the search's arrays hold the host's entries

@@ -15,7 +15,7 @@ use Rattle.order.specs.Demands.{Demands}
 use Rattle.order.specs.Refusals.{Verdict, prepareVerdict, searchVerdict}
 use Rattle.order.specs.Written.{afterVerdict}
 use Rattle.words.specs.Bytes.{samplesIn, entriesIn, wordsIn, bytesOf}
-use Rattle.host_calls.specs.Results.{resultOf, countsList}
+use Rattle.host_answers.specs.Results.{resultOf, countsList}
 
 -- the verdict on the numbers of whole entries
 abbrev pub prepareCase : List ℕ → List ℕ → List ℕ → List ℕ → List ℕ → Verdict

@@ -9,11 +9,7 @@ use Rattle.order.specs.Neighbours.{lowTable, highTable}
 use Rattle.order.specs.Witnesses.{witnessITable, witnessJTable}
 use Rattle.order.specs.Written.{over}
 use Rattle.sizes.specs.Lengths.{Room}
-use Rattle.search.specs.declared.answers.Searched.{Searched}
-use Rattle.search.specs.declared.answers.Searched.the-variants.{Done, Refused}
 use Rattle.words.specs.Bytes.{bytesOf}
-use Rattle.words.specs.Handed.{wordsPut}
-use Rattle.host_calls.specs.Results.{refusalResult, countsList}
 
 -- the pattern's four tables are written, as bytes, over what the host's held
 pub record TablesPut (P : List ℤ) (low high wi wj low' high' wi' wj' : List ℕ) : Type 0 where
@@ -36,25 +32,3 @@ pub record Arrays (most samples keeps lists : ℕ) : Type 0 where
   pub samples-long : most ≤ samples
   pub keeps-long : most ≤ keeps
   pub lists-long : most ≤ lists
-
--- ---- a search's answer
-
-abbrev pub answerResult : Searched → ℕ
-answerResult (Done c) = 0
-answerResult (Refused why) = refusalResult why
-
--- a list is put, unless the search was refused
-abbrev pub afterAnswer : Searched → List ℕ → List ℕ → List ℕ
-afterAnswer (Done c) l before = wordsPut l before
-afterAnswer (Refused why) l before = before
-
-abbrev pub countsAfter : Searched → List ℕ → List ℕ
-countsAfter (Done c) before = wordsPut (countsList c) before
-countsAfter (Refused why) before = before
-
--- the number that tells an answer, and its lists kept and listed and its counts in the host's buffers
-pub record AnswerPut (answer : Searched) (kept listed survivors positions counts : List ℕ) (r : ℕ) (survivors' positions' counts' : List ℕ) : Type 0 where
-  pub result : r ≡ answerResult answer
-  pub kept-put : survivors' ≡ afterAnswer answer kept survivors
-  pub listed-put : positions' ≡ afterAnswer answer listed positions
-  pub counts-put : counts' ≡ countsAfter answer counts

@@ -1,4 +1,3 @@
 -- What the calls of a C host promise, on the bytes themselves, and what the functions inside ask of each other.
-pub mod Results
 pub mod HostPromises
 pub mod Inside

@@ -4,10 +4,8 @@
 // called, and what it wrote becomes bytes again. The stack that each call takes is said in its file. The exported functions are in
 // the crate `tension_host`, one call each.
 
-mod answering;
 mod preparing;
 mod reading;
-mod results;
 mod searching;
 mod tiers;
 

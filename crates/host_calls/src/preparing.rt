@@ -5,8 +5,8 @@
 // stack for the samples and the tables.
 
 use crate::reading::all_samples;
-use crate::results::ACCEPTED;
-use crate::results::result_of;
+use host_answers::ACCEPTED;
+use host_answers::result_of;
 use sizes::Checked;
 use words::put_entries;
 ghost use Prim.Native.Nat.{_/_};

@@ -5,10 +5,10 @@
 // what `search::search` does and a turn for each sample and entry. Stack: 12 KB for the pattern and its tables, and for the trace
 // and the two lists up to 24 KB for 2,048 samples and 768 KB above.
 
-use crate::answering::put_answer;
 use crate::reading::all_samples;
-use crate::results::result_of;
 use crate::searching::search_samples;
+use host_answers::put_answer;
+use host_answers::result_of;
 use order::TRACE_LIMIT;
 use sizes::Fitting;
 ghost use Prim.Native.Nat.{_/_, _≤_};

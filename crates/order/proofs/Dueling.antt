@@ -12,9 +12,9 @@ use lib.IntN.{ℤ}
 use lib.ListN.{length, length-append, length-reverse}
 use Rattle.order.specs.declared.steps.Meeting.{Meeting}
 use Rattle.order.specs.declared.steps.Meeting.the-variants.{Agree, OlderFalls, NewerFalls, BothFall}
-use Rattle.order.specs.Sizes.{those, windowsOf}
+use Rattle.order.specs.Sizes.{those, windowsOf, passing}
 use Rattle.order.specs.Duels.{meets, Stack, stacked, after, arrive, arriveAll, entrants, duelled, duels, survivors}
-use Rattle.order.proofs.Lists.{passing, passing-append, passing-none, passing-top, passing-top-none, reverse-cons, mem-reverse, length-all}
+use Rattle.order.proofs.Lists.{passing-append, passing-none, passing-top, passing-top-none, reverse-cons, mem-reverse, length-all}
 use Rattle.order.proofs.Equivalences.{chain-windows}
 use Rattle.order.proofs.Isomorphisms.{iso-inherits}
 use Rattle.order.proofs.Meetings.{occurs, Told, Agrees, meets-fate}
@@ -152,6 +152,28 @@ module _ {meet : ℕ → ℕ → Meeting} {p : ℕ → Bool} {A : ℕ → ℕ �
   ended q zero = record { below = λ z k. absurd (List·Memᴰ·not-nil k); standing = tt; count = omega arith; unstruck = refl }
   ended q (suc n) =
       rw arrive-append (after-more (those q n) n (arriveAll meet (those q n) (stacked [] 0)) (q n) (ended q n))
+
+-- meetings that come out alike leave the same stack
+module _ (one other : ℕ → ℕ → Meeting) (same : (x y : ℕ) → one x y ≡ other x y) where
+  one-alike : (y : ℕ) (xs : List ℕ) (d : ℕ) → arrive one y xs d ≡ arrive other y xs d
+  unfolding arrive
+  one-alike y [] d = refl
+  one-alike y (x ∷ xs) d = ap₂ (λ m next. after m y x xs d next) (same x y) (one-alike y xs (d + 1))
+
+  pub arrive-alike : (ys : List ℕ) (s : Stack) → arriveAll one ys s ≡ arriveAll other ys s
+  unfolding arriveAll
+  arrive-alike [] s = refl
+  arrive-alike (y ∷ ys) s = ap (arriveAll one ys) (one-alike y (s .kept) (s .fought)) ∙ arrive-alike ys (arrive other y (s .kept) (s .fought))
+
+-- any outcome of meetings is fair to no window at all, and so has what is said of order and number
+pub any-fair : (meet : ℕ → ℕ → Meeting) → Fair meet (λ x. false) (λ x y. Unit {0})
+any-fair meet = record { told = λ x y h. go x y (meet x y); along = λ x y z h k a b. tt }
+  where
+    go : (x y : ℕ) (m : Meeting) → Told (λ x. false) (λ x y. Unit {0}) x y m
+    go x y Agree = tt
+    go x y OlderFalls = refl
+    go x y NewerFalls = refl
+    go x y BothFall = (refl, refl)
 
 -- ---- the rules' own duels
 

@@ -13,7 +13,7 @@ use lib.Dec.{leb}
 use lib.ListN.{length, getD, take, drop, length-append, List·getD-append}
 use lib.Seq.{take-take, getD-append-seam}
 use borrow.Author.Tests.{leb-true, leb-false}
-use Rattle.order.specs.Sizes.{Spot, none, place, windowsOf, each, those, lowest, orElse}
+use Rattle.order.specs.Sizes.{Spot, none, place, traceLimit, windowsOf, each, those, passing, lowest, orElse}
 use Rattle.order.proofs.Tests.{clash}
 
 -- a part of a list's front is a part of the list, where the front reaches
@@ -37,6 +37,14 @@ windowsOf-as m n = go (leb m n) refl
     go : (t : Bool) → leb m n ≡ t → cond t (n - m + 1) 0 ≡ n + 1 - m
     go true e = let h : m ≤ n = leb-true m n e in omega arith
     go false e = let h : n < m = leb-false m n e in omega arith
+
+-- of a trace within its limit they are few
+pub windows-few : (m n windows : ℕ) → windows ≡ windowsOf m n → n ≤ traceLimit → windows ≤ traceLimit + 1
+windows-few m n windows e h = let w = windowsOf-as m n in omega arith
+
+-- a window lies within the trace
+pub window-inside : (m n windows y : ℕ) → windows ≡ windowsOf m n → y < windows → y + m ≤ n
+window-inside m n windows y e h = let w = windowsOf-as m n in omega arith
 
 -- the list of what f gives below n
 pub each-more : {A : Type 0} (f : ℕ → A) (n : ℕ) → each f (n + 1) ≡ each f n ++ (f n ∷ [])
@@ -105,10 +113,6 @@ finds-lowest p n s f = finds-one p n (lowest p n) s (lowest-finds p n) f
 -- ---- lists of windows
 
 -- the numbers of a list that pass a test
-unfoldable pub passing : (ℕ → Bool) → List ℕ → List ℕ
-passing p [] = []
-passing p (x ∷ xs) = cond (p x) (x ∷ []) [] ++ passing p xs
-
 pub passing-append : (p : ℕ → Bool) (xs ys : List ℕ) → passing p (xs ++ ys) ≡ passing p xs ++ passing p ys
 unfolding passing
 passing-append p [] ys = refl

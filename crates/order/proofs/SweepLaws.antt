@@ -13,13 +13,13 @@ use lib.ListN.{length, take, drop, length-append, length-drop}
 use lib.Seq.{take-all}
 use Rattle.order.specs.declared.steps.Tested.{Tested}
 use Rattle.order.specs.declared.steps.Tested.the-variants.{Passed, Failed}
-use Rattle.order.specs.Sizes.{window}
+use Rattle.order.specs.Sizes.{window, passing}
 use Rattle.order.specs.Isomorphic.{Iso}
 use Rattle.order.specs.PlaceTest.{passes, cost}
 use Rattle.order.specs.Duels.{survivors}
 use Rattle.order.specs.Sweeping.{Swept, swept, Weight, onPass, onFail, onTest, tests, sweepOne, sweepAll, testsOf, sweptBy, sweepCost, positions}
 use Rattle.order.proofs.Tests.{clash, must-fail}
-use Rattle.order.proofs.Lists.{below-suc, passing, passing-one, windowsOf-as}
+use Rattle.order.proofs.Lists.{below-suc, passing-one, windowsOf-as}
 use Rattle.order.proofs.Equivalences.{carry-over}
 use Rattle.order.proofs.Isomorphisms.{iso-inherits, iso-computed, computed-iso}
 use Rattle.order.proofs.PlaceTests.{tests-iso, iso-tests, test-cost}

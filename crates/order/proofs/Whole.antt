@@ -9,13 +9,13 @@ use mathlib.Core.Bool.{Bool, true}
 use native.Mathlib.Omega.{arith}
 use lib.IntN.{ℤ}
 use lib.ListN.{length}
-use Rattle.order.specs.Sizes.{those, windowsOf, window}
+use Rattle.order.specs.Sizes.{those, windowsOf, window, passing}
 use Rattle.order.specs.Isomorphic.{Iso}
 use Rattle.order.specs.Duels.{entrants, survivors}
 use Rattle.order.specs.Sweeping.{positions}
 use Rattle.order.specs.Written.{countsOf, occurrences}
 use Rattle.order.specs.Demands.{Demands}
-use Rattle.order.proofs.Lists.{passing, passing-append, passing-one, mem-those, those-mem, mem-passing, Ascending}
+use Rattle.order.proofs.Lists.{passing-append, passing-one, mem-those, those-mem, mem-passing, Ascending}
 use Rattle.order.proofs.Isomorphisms.{iso-computed, computed-iso}
 use Rattle.order.proofs.Meetings.{occurs, Agrees}
 use Rattle.order.proofs.Dueling.{Agreeing, survivors-agreeing, survivors-unstruck, duels-and-survivors}

@@ -1,4 +1,4 @@
--- "Sizes": the limits, windows and their number, and the two ways in which a list is made of the numbers below another.
+-- "Sizes": the limits, windows and their number, and how a list is made of the numbers below another, or of those of a list.
 use Prim.Native.Nat.{ℕ, zero, suc, _+_, _-_}
 use mathlib.Core.List.{List, [], _∷_, _++_}
 use mathlib.Core.Bool.{Bool, cond}
@@ -60,6 +60,11 @@ each f (suc n) = each f n ++ (f n ∷ [])
 unfoldable pub those : (ℕ → Bool) → ℕ → List ℕ
 those p zero = []
 those p (suc n) = those p n ++ cond (p n) (n ∷ []) []
+
+-- those of a list, in its order
+unfoldable pub passing : (ℕ → Bool) → List ℕ → List ℕ
+passing p [] = []
+passing p (x ∷ xs) = cond (p x) (x ∷ []) [] ++ passing p xs
 
 -- the first of two spots, unless it is none
 unfoldable pub orElse : Spot → Spot → Spot

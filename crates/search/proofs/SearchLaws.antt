@@ -32,7 +32,8 @@ use Rattle.search.specs.Inside.Asked.{Searchable, SearchedOf}
 use Rattle.search.specs.SearchPromise.{SearchPromise}
 use Rattle.sizes.proofs.Verdicts.{fit-accepted, unfit-why, pattern-passed, tables-passed, room-passed}
 use Rattle.tables.proofs.ForeignEntries.{passes-same}
-use Rattle.search.proofs.WrittenOut.{filled-over, positions-few}
+use Rattle.lists.proofs.FilledUp.{filled-over}
+use Rattle.search.proofs.WrittenOut.{positions-few}
 
 -- ---- what an accepted search has
 

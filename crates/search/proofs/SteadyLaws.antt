@@ -19,19 +19,15 @@ use Rattle.order.specs.Relations.{rel}
 use Rattle.order.specs.Isomorphic.{Iso}
 use Rattle.order.specs.Neighbours.{nearest, lowOf, highOf}
 use Rattle.order.specs.PlaceTest.{matches, sameSpot, against, thenHigh, testOf}
-use Rattle.order.specs.declared.steps.Meeting.the-variants.{Agree}
 use Rattle.order.specs.Witnesses.{witnessJ}
-use Rattle.order.specs.Duels.{meets}
-use Rattle.order.specs.Equivalence.{SelfAgree}
 use Rattle.order.proofs.Tests.{clash, must-fail}
 use Rattle.order.proofs.Orders.{leZ-total, same-tests-alike}
 use Rattle.order.proofs.Nearest.{Ordering, upward, turned, Neighbour, le-refl}
 use Rattle.order.proofs.NearestOnly.{nearest-only}
 use Rattle.order.proofs.PlaceTests.{iso-order}
-use Rattle.order.proofs.Witnessing.{witness-is, none-agree, self-agree}
+use Rattle.order.proofs.Witnessing.{witness-is, none-agree}
 use Rattle.search.specs.Inside.Asked.{OwnFirst}
 use Rattle.search.specs.Inside.Courses.{stepTest, Steady}
-use Rattle.search.proofs.MeetingByTable.{far-agree}
 
 -- ---- one way throughout, by any order of samples
 
@@ -148,15 +144,8 @@ module _ (P : List ℤ) (e : witnessJ P 1 ≡ none) where
       (back upward P (length P - 1) shifted i here)
       (beside upward P (length P - 1) shifted i here)))
 
-  -- windows beside each other agree
-  next-agrees : (T : List ℤ) (x : ℕ) → meets P T x (x + 1) ≡ Agree
-  unfolding meets
-  next-agrees T x =
-      let one : x + 1 - x ≡ 1 = omega arith in
-      rw (self-agree P x (x + 1) (subst (λ (a : ℕ). SelfAgree Iso P a) (sym one) (none-agree P 1 e))) refl
-
   pub goes-one-way : 0 < length P → Steady P (rel (at P 1) (at P 0))
-  goes-one-way h = record { some = h; agreeing = next-agrees; steps = steps-alike }
+  goes-one-way h = record { some = h; steps = steps-alike }
 
 -- ---- as the code finds it
 
@@ -177,9 +166,4 @@ no-witness {P} {wi} own h e = go (witnessJ P 1) refl
 
 -- a single sample has no steps
 pub single-steady : (P : List ℤ) (way : Relation) → 0 < length P → length P ≤ 1 → Steady P way
-single-steady P way h k =
-    record {
-      some = h;
-      agreeing = λ T x. far-agree P T x (x + 1) (omega arith);
-      steps = λ v j a b. absurd (omega arith);
-    }
+single-steady P way h k = record { some = h; steps = λ v j a b. absurd (omega arith) }

@@ -2,7 +2,7 @@
 -- Assumes nothing.
 use Prim.Native.Nat.{ℕ, zero, suc, _+_, _-_, _*_, _≤_, _<_, max}
 use mathlib.Core.Path.{_≡_, refl, sym, _∙_, ap, ap₂, subst}
-use mathlib.Core.List.{List, [], _∷_, _++_, append-nil, List·Memᴰ, List·Memᴰ·head, List·Memᴰ·tail}
+use mathlib.Core.List.{List, [], _∷_, List·Memᴰ, List·Memᴰ·head, List·Memᴰ·tail}
 use mathlib.Core.Bool.{Bool, true, false, cond}
 use native.Mathlib.Omega.{arith}
 use native.Mathlib.Numerals.{add-one}
@@ -17,7 +17,7 @@ use Rattle.order.specs.Relations.{rel}
 use Rattle.order.specs.PlaceTest.{testOf, cost}
 use Rattle.order.specs.EntryTest.{testBy}
 use Rattle.order.specs.Duels.{survivors}
-use Rattle.order.specs.Sweeping.{Swept, swept, onTest, tests, sweepOne, sweepAll, testsOf, sweptBy, sweepCost, positions}
+use Rattle.order.specs.Sweeping.{Swept, swept, tests, sweepAll, testsOf, sweptBy, sweepCost, positions}
 use Rattle.order.specs.declared.refusal.Refusal.{Refusal}
 use Rattle.order.specs.Refusals.{accepted}
 use Rattle.order.specs.Written.{over, afterVerdict}

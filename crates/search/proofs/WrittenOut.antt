@@ -1,71 +1,22 @@
--- Shows: a buffer whose first entries are a list, filled with "unused" up to the number of windows, is what the rules write;
--- so the duels and the sweep leave the rules' buffers, and a search that was checked meets its promise.
+-- Shows: the sweep's list, with "unused" behind it, is what the rules write; so with what the duels leave, a search that was checked meets
+-- its promise.
 -- Assumes nothing.
 use Prim.Native.Nat.{ℕ, _+_, _-_, _≤_}
 use mathlib.Core.Path.{_≡_, refl, sym, _∙_, ap, ap₂, subst}
-use mathlib.Core.List.{List, _++_, reverse, append-assoc}
+use mathlib.Core.List.{List, _++_}
 use native.Mathlib.Omega.{arith}
 use lib.IntN.{ℤ}
-use lib.ListN.{length, take, drop, replicate, length-append, length-replicate, length-reverse}
+use lib.ListN.{length, take, drop, replicate, length-append}
 use lib.Seq.{take-at, length-take-le, drop-drop}
 use Rattle.order.specs.Sizes.{unused, windowsOf}
-use Rattle.order.specs.Duels.{Stack, duelled, duels, survivors}
+use Rattle.order.specs.Duels.{survivors}
 use Rattle.order.specs.Sweeping.{sweepCost, positions}
 use Rattle.order.specs.Written.{countsOf, over, filled}
 use Rattle.order.proofs.Dueling.{duels-and-survivors}
 use Rattle.order.proofs.SweepLaws.{sweep-fails, sweep-lists-same}
-use Rattle.search.specs.Inside.Stacks.{DuelsOf}
+use Rattle.lists.proofs.FilledUp.{filled-over, written-out}
 use Rattle.search.specs.Inside.Sweeps.{SweepOf}
-use Rattle.search.specs.Inside.Asked.{SearchedOf}
-use Rattle.search.proofs.StackLaws.{length-top, reverse-top}
-
--- the list, then "unused" up to entry n − 1, then the old content
-pub filled-over : (l before : List ℕ) (n : ℕ) → length l ≤ n → over (filled l n) before ≡ l ++ (replicate (n - length l) unused ++ drop n before)
-filled-over l before n h =
-    ap (λ k. (l ++ replicate (n - length l) unused) ++ drop k before) long ∙ append-assoc l (replicate (n - length l) unused) (drop n before)
-  where
-    long : length (filled l n) ≡ n
-    long = length-append l (replicate (n - length l) unused) ∙ rw length-replicate (omega arith)
-
--- a list in a buffer's first entries, filled up
-pub written-out : (l before after : List ℕ) (k n : ℕ) {end : List ℕ} → take k after ≡ l → k ≡ length l → k ≤ n → drop n after ≡ drop n before
-    → end ≡ take k after ++ (replicate (n - k) unused ++ drop n after) → end ≡ over (filled l n) before
-written-out l before after k n e number h beyond w =
-    w ∙ ap₂ (λ t d. t ++ (replicate (n - k) unused ++ d)) e beyond ∙ ap (λ j. l ++ (replicate (n - j) unused ++ drop n before)) number ∙
-    sym (filled-over l before n (omega arith))
-
--- ---- the duels
-
--- what the duels leave, written out
-pub record SurvivorsOf (P T : List ℤ) (before after : List ℕ) (kept fought : ℕ) : Type 0 where
-  pub number : kept ≡ length (survivors P T)
-  pub fought-is : fought ≡ duels P T
-  pub written : after ≡ over (filled (survivors P T) (windowsOf (length P) (length T))) before
-
-module _ {P T : List ℤ} {windows : ℕ} {before after : List ℕ} {kept fought : ℕ} (d : DuelsOf P T windows before after kept fought) where
-  pub kept-number : kept ≡ length (survivors P T)
-  unfolding survivors
-  kept-number = sym (length-reverse (duelled P T .kept) ∙ ap (λ (s : Stack). length (s .kept)) (d .result) ∙ length-top after kept)
-
-  pub kept-few : kept ≤ windowsOf (length P) (length T)
-  kept-few = let s = duels-and-survivors P T in let n = kept-number in omega arith
-
-  pub kept-first : kept ≤ length after → take kept after ≡ survivors P T
-  unfolding survivors
-  kept-first h = sym (ap (λ (s : Stack). reverse (s .kept)) (d .result) ∙ reverse-top after kept h)
-
-  pub survivors-out : {end : List ℕ} → windows ≡ windowsOf (length P) (length T) → windows ≤ length before
-      → end ≡ take kept after ++ (replicate (windows - kept) unused ++ drop windows after) → SurvivorsOf P T before end kept fought
-  unfolding duels
-  survivors-out {end} e h w =
-      let f = kept-few in
-      let l = d .same-length in
-      record {
-        number = kept-number;
-        fought-is = sym (ap (λ (s : Stack). s .fought) (d .result));
-        written = subst (λ (n : ℕ). end ≡ over (filled (survivors P T) n) before) e
-            (written-out (survivors P T) before after kept windows (kept-first (omega arith)) kept-number (omega arith) (d .beyond) w);
-      }
+use Rattle.search.specs.Inside.Asked.{SurvivorsOf, SearchedOf}
 
 -- ---- the sweep
 

@@ -1,7 +1,5 @@
 -- What the functions inside this crate ask of each other and tell; none of it is promised to a caller.
-pub mod Codes
 pub mod Courses
 pub mod Asked
-pub mod Stacks
 pub mod Runs
 pub mod Sweeps

@@ -4,13 +4,10 @@
 // refused has stored nothing: sizes are looked at first, then the tables, then the work is done.
 
 mod answers;
-mod codes;
 mod course;
-mod duels;
 mod mixed;
 mod searching;
 mod steady;
-mod unused_entries;
 
 pub use answers::Searched;
 pub use searching::search;

@@ -3,18 +3,18 @@
 // Follows docs/RULES.md, "Duels", "Sweep", "Counts", "What is written" and "Refusals" (Jargalsaikhan 2022, section 3). Sizes
 // are looked at first, then the tables, then the work is done: a refused call has stored nothing. The duels make D comparisons of the
 // trace and the sweep at most 2(n + S), blocks and looks that fail counted in; the pattern is compared with itself besides, twice for
-// each offset with a witness or once (codes.rt, course.rt). `tables::check_tables` says what the check of the tables takes.
+// each offset with a witness or once (duels/codes.rt, course.rt). `tables::check_tables` says what the check of the tables takes.
 
 use crate::answers::Searched;
 use crate::course::Course;
 use crate::course::course_of;
-use crate::duels::Duelled;
-use crate::duels::duel_windows;
-use crate::duels::keep_all;
 use crate::mixed::Swept;
 use crate::mixed::sweep_mixed;
 use crate::steady::sweep_steady;
-use crate::unused_entries::fill_unused;
+use duels::Duelled;
+use duels::Duels;
+use duels::duel_windows;
+use lists::fill_unused;
 use order::Counts;
 use sizes::Checked;
 use sizes::Fitting;
@@ -23,9 +23,8 @@ ghost use lib.ListN.{length};
 ghost use Rattle.order.specs.Sizes.{windowsOf};
 ghost use Rattle.order.specs.Refusals.{searchVerdict};
 ghost use Rattle.sizes.specs.Answers.{fittingBy};
-ghost use Rattle.search.specs.Inside.Asked.{Duels, Sweeps, Searchable, SearchedOf};
+ghost use Rattle.search.specs.Inside.Asked.{Dueling, SurvivorsOf, Sweeps, Searchable, SearchedOf};
 ghost use Rattle.search.specs.Inside.Courses.{Chosen};
-ghost use Rattle.search.specs.Inside.Stacks.{DuelsOf};
 ghost use Rattle.search.specs.Inside.Sweeps.{SweepOf};
 ghost use Rattle.search.specs.SearchPromise.{SearchPromise};
 
@@ -62,29 +61,23 @@ fn check_search(
     }
 }
 
-// The duels, of which a steady pattern has none.
+// The duels, by the pattern's own tables.
 fn keep_windows(
     pattern: &[i32],
     witness_i: &[u16],
     witness_j: &[u16],
     trace: &[i32],
-    windows: usize,
-    course: Course,
     survivors: &mut [u32],
 ) -> Duelled
-    requires { ⌜ Duels (now pattern) (now «witness_i») (now «witness_j») (now trace) windows (now survivors) × Chosen (now pattern) course ⌝ }
-    ensures { λ r. ⌜ DuelsOf (now (pattern .entry)) (now (trace .entry)) windows (now (survivors .entry)) (now (survivors .exit)) (r .kept) (r .fought) ⌝ }
+    requires { ⌜ Dueling (now pattern) (now «witness_i») (now «witness_j») (now trace) (now survivors) ⌝ }
+    ensures { λ r. ⌜ SurvivorsOf (now (pattern .entry)) (now (trace .entry)) (now (survivors .entry)) (now (survivors .exit)) (r .kept) (r .fought) ⌝ }
 {
-    match course {
-        Course::Steady(way) => {
-            keep_all(pattern, trace, way, windows, survivors);
-            Duelled {
-                kept: windows,
-                fought: 0,
-            }
-        }
-        Course::Mixed => duel_windows(pattern, witness_i, witness_j, trace, windows, survivors),
-    }
+    let answer = duel_windows(pattern, witness_i, witness_j, trace, survivors);
+    let Duels::Done(duelled) = answer else {
+        // never: the lengths were looked at
+        return Duelled { kept: 0, fought: 0 };
+    };
+    duelled
 }
 
 // The sweep, the pattern's way.
@@ -107,7 +100,7 @@ fn sweep_windows(
     }
 }
 
-// The search itself, of what was checked: the duels, then the sweep, and "unused" after each one's list.
+// The search itself, of what was checked: the duels, then the sweep, and "unused" after its list too.
 fn run(
     pattern: &[i32],
     low: &[u16],
@@ -122,18 +115,9 @@ fn run(
     requires { ⌜ Searchable (now pattern) (now low) (now high) (now «witness_i») (now «witness_j») (now trace) windows (length (now survivors)) (length (now positions)) ⌝ }
     ensures { λ r. ⌜ SearchedOf (now (pattern .entry)) (now (trace .entry)) (now (survivors .entry)) (now (positions .entry)) (now (survivors .exit)) (now (positions .exit)) r ⌝ }
 {
-    let course = course_of(pattern, witness_i);
-    let duelled = keep_windows(
-        pattern,
-        witness_i,
-        witness_j,
-        trace,
-        windows,
-        course,
-        survivors,
-    );
+    let duelled = keep_windows(pattern, witness_i, witness_j, trace, survivors);
+    let course = course_of(pattern, witness_i); // after the duels, whose loop would keep registers for it
     let kept = duelled.kept;
-    fill_unused(survivors, kept, windows);
     let swept = sweep_windows(
         pattern,
         low,
@@ -145,7 +129,7 @@ fn run(
         positions,
     );
     let found = swept.found;
-    fill_unused(positions, found, windows);
+    fill_unused(&mut positions[found..windows]);
     Counts {
         windows: windows as u32,
         duels: duelled.fought,

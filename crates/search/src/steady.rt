@@ -8,15 +8,16 @@
 // of looks that fail counted in. Callers hand over the survivors of a steady pattern.
 
 use crate::mixed::Swept;
+use lists::list_one;
 use order::Relation;
 use order::Window;
 use words::larger;
 use words::smaller;
 use words::wide32;
 ghost use mathlib.Core.Path.{_≡_};
-ghost use mathlib.Core.Bool.{true, cond};
+ghost use mathlib.Core.Bool.{true};
 ghost use Prim.Native.Nat.{_+_, _-_, _≤_, _<_};
-ghost use lib.ListN.{length, set};
+ghost use lib.ListN.{length};
 ghost use Rattle.order.specs.Sizes.{traceLimit};
 ghost use Rattle.order.specs.Relations.{rel, alike};
 ghost use Rattle.order.specs.EntryTest.{told};
@@ -103,18 +104,6 @@ fn climb(
         spent,
         whole: true,
     }
-}
-
-// Lists a window that passed all its places, and answers how many are listed then.
-fn list_one(positions: &mut [u32], found: usize, x: u32, whole: bool) -> usize
-    requires { ⌜ found < length (now positions) ⌝ }
-    ensures { λ r. ⌜ (now (positions .exit) ≡ cond whole (set (now (positions .entry)) found x) (now (positions .entry))) × (r ≡ cond whole (found + 1) found) ⌝ }
-{
-    if whole {
-        positions[found] = x;
-        return found + 1;
-    }
-    found
 }
 
 // How far the sweep has come: E, the comparisons spent, and how many windows are listed.

@@ -7,7 +7,7 @@ use mathlib.Core.List.{List, [], _∷_, _++_}
 use mathlib.Core.Bool.{Bool, true, false, cond}
 use native.Mathlib.Omega.{arith}
 use native.Mathlib.Numerals.{add-one}
-use lib.Dec.{leb, ltb, eqb}
+use lib.Dec.{ltb, eqb}
 use lib.IntN.{ℤ}
 use lib.ListN.{length, getD, take, drop, take-append-drop, drop-of-length-le}
 use lib.Seq.{length-take-le, drop-cons}
@@ -15,16 +15,14 @@ use borrow.Author.Tests.{lt-ltb, le-ltb, le-leb, lt-leb}
 use Rattle.order.specs.declared.relation.Relation.the-variants.{Less, Equal, Greater}
 use Rattle.order.specs.declared.steps.Tested.the-variants.{Passed, Failed}
 use Rattle.order.specs.declared.refusal.Refusal.the-variants.{ShortPositions}
-use Rattle.order.specs.Sizes.{asPlace, window}
+use Rattle.order.specs.Sizes.{asPlace, window, passing}
 use Rattle.order.specs.PlaceTest.{cost}
 use Rattle.order.specs.EntryTest.{told, underHigh, testBy}
-use Rattle.order.specs.Refusals.{accepted, refused}
-use Rattle.order.specs.Written.{over}
 use Rattle.order.specs.Sweeping.{Swept, swept, sweepAll}
 use Rattle.sweep.specs.declared.answers.Swept.{Swept as Spent}
 use Rattle.sweep.specs.declared.answers.Sweep.{Sweep}
 use Rattle.sweep.specs.declared.answers.Sweep.the-variants.{Done, Refused}
-use Rattle.sweep.specs.Sweeps.{placesOf, entryTests, insideOf, sweptOf, listVerdict, sweepBy, spentOf, SweepPromise}
+use Rattle.sweep.specs.Sweeps.{placesOf, entryTests, insideOf, sweptOf, listVerdict, SweepPromise}
 use Rattle.sweep.specs.Inside.{SweptTo, SweptAll}
 use Rattle.sweep.proofs.Testing.{Cheap}
 
@@ -69,11 +67,11 @@ entry-test low high T x {m} j e =
 
 -- one more window of the list, in the trace or not
 pub one-inside : (m n : ℕ) (ws : List ℕ) (k : ℕ) → k < length ws → getD ws k 0 + m ≤ n → insideOf m n (drop k ws) ≡ getD ws k 0 ∷ insideOf m n (drop (k + 1) ws)
-unfolding insideOf
+unfolding insideOf passing
 one-inside m n ws k h i = ap (insideOf m n) (drop-cons ws k 0 h) ∙ rw (le-leb (getD ws k 0 + m) n i, add-one k) refl
 
 pub one-outside : (m n : ℕ) (ws : List ℕ) (k : ℕ) → k < length ws → n < getD ws k 0 + m → insideOf m n (drop k ws) ≡ insideOf m n (drop (k + 1) ws)
-unfolding insideOf
+unfolding insideOf passing
 one-outside m n ws k h i = ap (insideOf m n) (drop-cons ws k 0 h) ∙ rw (lt-leb (getD ws k 0 + m) n i, add-one k) refl
 
 -- ---- the end
@@ -81,7 +79,7 @@ one-outside m n ws k h i = ap (insideOf m n) (drop-cons ws k 0 h) ∙ rw (lt-leb
 pub all-swept : {low high : List ℕ} {T : List ℤ} {ws before after : List ℕ} {k reach spent found : ℕ}
     → SweptTo (entryTests low high T) (placesOf low high) (length T) (insideOf (placesOf low high) (length T) ws) (insideOf (placesOf low high) (length T) (drop k ws)) (length ws) before after k reach spent found
     → drop found after ≡ drop found before → length ws ≤ k → length ws ≤ length before → SweptAll low high T ws before after spent found
-unfolding sweptOf insideOf sweepAll
+unfolding sweptOf insideOf passing sweepAll
 all-swept {low} {high} {T} {ws} {before} {after} {k} {reach} {spent} {found} i behind h room =
     let v = i .within in
     let f = i .few in

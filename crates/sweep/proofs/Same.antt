@@ -8,10 +8,11 @@ use borrow.Author.Tests.{le-leb}
 use Rattle.order.specs.declared.steps.Tested.{Tested}
 use Rattle.order.specs.PlaceTest.{cost}
 use Rattle.order.specs.Sweeping.{Swept, onTest, tests, sweepOne, sweepAll}
+use Rattle.order.specs.Sizes.{passing}
 use Rattle.sweep.specs.Sweeps.{insideOf}
 
 pub all-inside : (m n : ℕ) (xs : List ℕ) → ((x : ℕ) → List·Memᴰ x xs → x + m ≤ n) → insideOf m n xs ≡ xs
-unfolding insideOf
+unfolding insideOf passing
 all-inside m n [] f = refl
 all-inside m n (x ∷ xs) f = rw (le-leb (x + m) n (f x (List·Memᴰ·head refl))) (ap (λ l. x ∷ l) (all-inside m n xs (λ y h. f y (List·Memᴰ·tail h))))
 

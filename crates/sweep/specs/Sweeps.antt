@@ -1,14 +1,13 @@
 -- "Sweep", by the entries of two tables as they stand, of any list of windows.
 use Prim.Native.Nat.{ℕ, _+_, _*_, _≤_, min}
 use mathlib.Core.Path.{_≡_}
-use mathlib.Core.List.{List, [], _∷_}
-use mathlib.Core.Bool.{cond}
+use mathlib.Core.List.{List, []}
 use lib.Dec.{leb, ltb}
 use lib.IntN.{ℤ}
 use lib.ListN.{length, getD}
 use Rattle.order.specs.declared.steps.Tested.{Tested}
 use Rattle.order.specs.declared.refusal.Refusal.the-variants.{ShortPositions}
-use Rattle.order.specs.Sizes.{window}
+use Rattle.order.specs.Sizes.{window, passing}
 use Rattle.order.specs.PlaceTest.{cost}
 use Rattle.order.specs.EntryTest.{testBy}
 use Rattle.order.specs.Sweeping.{Swept, swept, sweepAll}
@@ -28,8 +27,7 @@ entryTests low high T x j = testBy (window T x (placesOf low high)) (getD low j 
 
 -- the windows of m samples that lie in a trace of n
 unfoldable pub insideOf : ℕ → ℕ → List ℕ → List ℕ
-insideOf m n [] = []
-insideOf m n (x ∷ xs) = cond (leb (x + m) n) (x ∷ insideOf m n xs) (insideOf m n xs)
+insideOf m n = passing (λ x. leb (x + m) n)
 
 -- the rules' sweep of these, by these tests
 unfoldable pub sweptOf : List ℕ → List ℕ → List ℤ → List ℕ → Swept

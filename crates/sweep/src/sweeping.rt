@@ -6,6 +6,7 @@
 
 use crate::answers::Sweep;
 use crate::answers::Swept;
+use lists::list_one;
 use order::Place;
 use order::Refusal;
 use order::Tested;
@@ -14,11 +15,9 @@ use order::test_place;
 use words::larger;
 use words::smaller;
 use words::wide32;
-ghost use mathlib.Core.Path.{_≡_};
-ghost use mathlib.Core.Bool.{cond};
-ghost use Prim.Native.Nat.{_+_, _≤_, _<_};
-ghost use lib.ListN.{length, set};
-ghost use Rattle.sweep.specs.Sweeps.{placesOf, entryTests, SweepPromise};
+ghost use Prim.Native.Nat.{_≤_};
+ghost use lib.ListN.{length};
+ghost use Rattle.sweep.specs.Sweeps.{entryTests, SweepPromise};
 ghost use Rattle.sweep.specs.Inside.{Testable, SweptOne, SweptAll};
 
 // Where the tests of one window end: E, the comparisons spent so far, and whether all its places passed.
@@ -65,18 +64,6 @@ fn sweep_one(
         spent,
         whole: true,
     }
-}
-
-// Lists a window that passed all its places, and answers how many are listed then.
-fn list_one(positions: &mut [u32], found: usize, x: u32, whole: bool) -> usize
-    requires { ⌜ found < length (now positions) ⌝ }
-    ensures { λ r. ⌜ (now (positions .exit) ≡ cond whole (set (now (positions .entry)) found x) (now (positions .entry))) × (r ≡ cond whole (found + 1) found) ⌝ }
-{
-    if whole {
-        positions[found] = x;
-        return found + 1;
-    }
-    found
 }
 
 // All windows, into a list with room for them.

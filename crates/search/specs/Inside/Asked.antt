@@ -4,25 +4,15 @@ use mathlib.Core.Path.{_≡_}
 use mathlib.Core.List.{List}
 use lib.IntN.{ℤ}
 use lib.ListN.{length, getD, take}
-use Rattle.order.specs.Sizes.{entry, patternLimit, at, traceLimit, windowsOf}
-use Rattle.order.specs.Relations.{rel}
+use Rattle.order.specs.Sizes.{entry, patternLimit, traceLimit, windowsOf}
 use Rattle.order.specs.Witnesses.{witnessI, witnessJ}
 use Rattle.order.specs.Written.{over, countsOf, filled}
 use Rattle.order.specs.declared.relation.Relation.{Relation}
-use Rattle.order.specs.Duels.{survivors}
+use Rattle.order.specs.Duels.{duels, survivors}
 use Rattle.order.specs.Sweeping.{positions}
 use Rattle.order.specs.declared.steps.Counts.{Counts}
 use Rattle.tables.specs.Inside.Asked.{OwnNeighbours}
-use Rattle.search.specs.Inside.Codes.{Coded}
 use Rattle.search.specs.Inside.Courses.{Steady}
-
--- a duel of window y with the one a before it, by the witness (i, j)
-pub record Duelable (P T : List ℤ) (y a i j : ℕ) : Type 0 where
-  pub i-inside : a + i < length P
-  pub j-inside : a + j < length P
-  pub i-reach : y + i < length T
-  pub j-reach : y + j < length T
-  pub differs : rel (at P i) (at P j) ≡ rel (at P (a + i)) (at P (a + j)) → ⊥
 
 -- the witness tables are the pattern's own below its length
 pub record OwnWitnesses (P : List ℤ) (wi wj : List ℕ) : Type 0 where
@@ -39,19 +29,18 @@ pub record OwnFirst (P : List ℤ) (wi : List ℕ) : Type 0 where
   pub long : length P ≤ length wi
   pub own : (a : ℕ) → a < length P → getD wi a 0 ≡ entry (witnessI P a)
 
--- window x and a later window y of the trace
-pub record Meetable (P : List ℤ) (wi wj olders newers : List ℕ) (T : List ℤ) (x y : ℕ) : Type 0 where
-  pub own : OwnWitnesses P wi wj
-  pub codes : Coded P wi wj olders newers (length P)
-  pub later : x < y
-  pub inside : y + length P ≤ length T
-
--- all windows, and a buffer with room for them
-pub record Duels (P : List ℤ) (wi wj : List ℕ) (T : List ℤ) (windows : ℕ) (before : List ℕ) : Type 0 where
+-- the duels by the pattern's own tables, and a buffer with room for every window
+pub record Dueling (P : List ℤ) (wi wj : List ℕ) (T : List ℤ) (before : List ℕ) : Type 0 where
+  pub some : 0 < length P
   pub own : OwnWitnesses P wi wj
   pub trace : length T ≤ traceLimit
-  pub number : windows ≡ windowsOf (length P) (length T)
-  pub room : windows ≤ length before
+  pub room : windowsOf (length P) (length T) ≤ length before
+
+-- what the duels leave: the survivors, with "unused" behind them
+pub record SurvivorsOf (P T : List ℤ) (before after : List ℕ) (kept fought : ℕ) : Type 0 where
+  pub number : kept ≡ length (survivors P T)
+  pub fought-is : fought ≡ duels P T
+  pub written : after ≡ over (filled (survivors P T) (windowsOf (length P) (length T))) before
 
 -- what a sweep may spend: 2(n + S) at the longest trace
 abbrev pub spentLimit : ℕ

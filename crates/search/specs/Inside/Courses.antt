@@ -1,5 +1,5 @@
 -- Which way a search goes: patterns that rise, fall or stay level throughout, and all others.
-use Prim.Native.Nat.{ℕ, _+_, _-_, _<_}
+use Prim.Native.Nat.{ℕ, _-_, _<_}
 use mathlib.Core.Path.{_≡_}
 use mathlib.Core.List.{List}
 use mathlib.Core.Bool.{cond}
@@ -8,11 +8,9 @@ use lib.ListN.{length}
 use Rattle.order.specs.declared.relation.Relation.{Relation}
 use Rattle.order.specs.declared.steps.Tested.{Tested}
 use Rattle.order.specs.declared.steps.Tested.the-variants.{Passed, Failed}
-use Rattle.order.specs.declared.steps.Meeting.the-variants.{Agree}
 use Rattle.order.specs.Sizes.{asPlace}
 use Rattle.order.specs.PlaceTest.{testOf}
 use Rattle.order.specs.EntryTest.{told}
-use Rattle.order.specs.Duels.{meets}
 use Rattle.search.specs.declared.course.Course.{Course}
 use Rattle.search.specs.declared.course.Course.the-variants.{Steady as SteadyCourse}
 
@@ -20,11 +18,9 @@ use Rattle.search.specs.declared.course.Course.the-variants.{Steady as S
 abbrev pub stepTest : Relation → List ℤ → ℕ → Tested
 stepTest way v j = cond (told v j (j - 1) way) (Passed 1) (Failed 1 (asPlace (j - 1)))
 
--- each sample of the pattern compares with the one before it as `way` tells: windows beside each other agree, in any trace, and the test
--- of a place is that one comparison
+-- each sample of the pattern compares with the one before it as `way` tells, and the test of a place is that one comparison
 pub record Steady (P : List ℤ) (way : Relation) : Type 0 where
   pub some : 0 < length P
-  pub agreeing : (T : List ℤ) (x : ℕ) → meets P T x (x + 1) ≡ Agree
   pub steps : (v : List ℤ) (j : ℕ) → 0 < j → j < length P → testOf P v j ≡ stepTest way v j
 
 -- the way that was chosen is the pattern's

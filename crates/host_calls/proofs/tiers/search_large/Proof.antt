@@ -1,7 +1,6 @@
 -- `search_large` meets its contract: refused before anything is written, or searched in the large arrays.
 -- Assumes nothing.
 use denote.Ref.{now}
-use native.Mathlib.Omega.{arith}
 use Rattle.host_calls.proofs.SearchingLaws.{search-fits, search-refused}
 use borrow.Author.Needs.{needs}
 use Rattle.host_calls.proofs.tiers.search_large.Statement.{statement}

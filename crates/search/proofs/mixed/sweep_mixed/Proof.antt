@@ -1,7 +1,6 @@
 -- `sweep_mixed` meets its contract: the sweep of the survivors by the pattern's own tables is the rules'.
 -- Assumes nothing.
 use native.Mathlib.Omega.{arith}
-use denote.Ref.{now}
 use Rattle.search.proofs.SweepSteps.{rows-few, mixed-refused, mixed-swept}
 use borrow.Author.Needs.{needs}
 use Rattle.search.proofs.mixed.sweep_mixed.Statement.{statement}

@@ -1,43 +1,38 @@
--- `keep_windows` meets its contract: either way leaves the rules' stack.
+-- `keep_windows` meets its contract: by the pattern's own tables the duels are the rules', and no length is refused.
 -- Assumes nothing.
+use Rattle.search.proofs.OwnDuels.{never-refused, survivors-out}
 use borrow.Author.Needs.{needs}
 use Rattle.search.proofs.searching.keep_windows.Statement.{statement}
 use Rattle.search.proofs.searching.keep_windows.Tie as tie
 
-enum-known-course : tie.Need-enum-known-course
-enum-known-course c = search needs
+duel-windows-requires : tie.Need-duel-windows-requires
+duel-windows-requires c κs = search needs
 
-keep-all-requires : tie.Need-keep-all-requires
-keep-all-requires c κs =
-    let p = c .before .before .before .before .before .before .before .pre in
-    (p .1 .steady _ (c .before .before .course .given .1), p .0 .number, p .0 .trace, p .0 .room)
+enum-known-answer : tie.Need-enum-known-answer
+enum-known-answer c = search needs
 
 enum-told : tie.Need-enum-told
 enum-told c = search needs
-
-duel-windows-requires : tie.Need-duel-windows-requires
-duel-windows-requires c κs = search needs
 
 same-length : tie.Need-same-length
 same-length c = search needs
 
 returns : tie.Need-returns
-returns c = search needs
+returns c = absurd (never-refused (c .before .before .before .before .before .before .before .before .before .pre) (c .before .before .before .before .duel-windows .ensures) (c .enum-told .given .1))
 
 same-length-2 : tie.Need-same-length-2
 same-length-2 c = search needs
 
 returns-2 : tie.Need-returns-2
-returns-2 c = search needs
+returns-2 c = survivors-out (c .before .before .before .before .before .before .before .before .before .before .pre) (c .before .before .before .before .before .duel-windows .ensures) (c .before .answer .given .1)
 
 pub keep-windows-spec : {M : Type 1} → statement M
 keep-windows-spec =
     tie.close
     (tie.spec
-    enum-known-course
-    keep-all-requires
-    enum-told
     duel-windows-requires
+    enum-known-answer
+    enum-told
     same-length
     returns
     same-length-2

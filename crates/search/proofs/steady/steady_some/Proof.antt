@@ -2,10 +2,12 @@
 -- sample passed and one more if it fails.
 -- Assumes nothing.
 use Prim.Native.Nat.{ℕ, _+_, _≤_, _<_, _-_}
-use mathlib.Core.Path.{subst}
+use mathlib.Core.Path.{_∙_, subst}
 use native.Mathlib.Nat.{le-antisymm}
 use native.Mathlib.Omega.{arith}
 use denote.Ref.{now}
+use lib.ListN.{length}
+use Rattle.lists.proofs.OneMore.{count-within}
 use Rattle.search.specs.Inside.Sweeps.{SweptTo}
 use Rattle.search.proofs.SweepSteps.{next-swept, entry-of, rows-number, rows-few, rows-inside, swept-as}
 use borrow.Author.Needs.{needs}
@@ -51,7 +53,11 @@ climb-requires c κs =
     record { steady = s .pre .0 .steady; trace = t; inside = omega arith; begun = omega arith; reached = omega arith; small = omega (arith, rows-few rows) }
 
 list-one-requires : tie.Need-list-one-requires Inv-loop μ-loop
-list-one-requires c κs =
+list-one-requires c κs = search needs
+
+-- there is room for one more
+room : (c : tie.After-list-one-arg Inv-loop μ-loop) → c .before .before .before .before .before .before .loop .found < length (c .before .before .before .before .before .before .loop .positions)
+room c =
     let s = c .before .before .before .before .before .before .before .before .before in
     let i = c .before .before .before .before .before .before .loop .inv .1 in
     let f = i .so-far .few in
@@ -75,9 +81,10 @@ loop-again c =
     let to = s .pre .2 in
     let h : l .k < s .args .kept = omega arith in
     let rows = s .pre .0 .rows in
-    let e = entry-of (now (s .args .pattern)) (now (s .args .trace)) (s .args .kept) (now (s .args .survivors)) (l .k) (rows .held) h in (
+    let e = entry-of (now (s .args .pattern)) (now (s .args .trace)) (s .args .kept) (now (s .args .survivors)) (l .k) (rows .held) h in
+    let count = c .before .before .list-one .ensures .1 ∙ count-within (l .positions) (l .found) (c .before .before .before .before .climb .result .whole) (room (c .before .before .before)) in (
       omega arith,
-      rw (c .before .before .list-one .ensures .0, c .before .before .list-one .ensures .1)
+      rw (c .before .before .list-one .ensures .0, count)
           (next-swept (l .inv .1) h (rows-number rows) e (s .pre .0 .room)
           (swept-as (l .reach) (c .before .before .before .before .before .before .wide32 .ensures .0) (c .before .before .before .before .before .larger .ensures) (c .before .before .before .before .climb .ensures .swept-one)) (rows-inside rows (l .k) h)),
       (let g = c .before .before .before .before .climb .ensures .cheap in let m = c .before .before .before .before .before .larger .ensures in let i = l .inv .2 in omega arith),

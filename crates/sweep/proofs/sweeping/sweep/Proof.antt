@@ -1,6 +1,5 @@
 -- `sweep` meets its contract: refused before anything is stored, or what the loop leaves.
 -- Assumes nothing.
-use denote.Ref.{now}
 use Rattle.sweep.proofs.Promised.{sweep-refused, sweep-done}
 use borrow.Author.Needs.{needs}
 use Rattle.sweep.proofs.sweeping.sweep.Statement.{statement}

@@ -1,14 +1,14 @@
 -- `sweep_all` meets its contract: each turn sweeps one window as the rules do, or passes over one that is not in the trace. The loop's
 -- invariant: the windows passed are swept. The measure is the windows left.
 -- Assumes nothing.
-use Prim.Native.Nat.{ℕ, _+_, _≤_, _<_, _-_, max}
-use mathlib.Core.Path.{_≡_, refl, sym, _∙_, ap, subst}
-use mathlib.Core.List.{List, _∷_}
+use Prim.Native.Nat.{_+_, _≤_, _<_, _-_}
+use mathlib.Core.Path.{_≡_, refl, _∙_}
 use native.Mathlib.Omega.{arith}
 use denote.Ref.{now}
 use lib.ListN.{length, getD, drop}
+use Rattle.lists.proofs.OneMore.{count-within}
 use Rattle.sweep.specs.Sweeps.{placesOf, entryTests, insideOf}
-use Rattle.sweep.specs.Inside.{SweptOne, SweptTo}
+use Rattle.sweep.specs.Inside.{SweptTo}
 use Rattle.sweep.proofs.Listing.{none-swept, rest-as, passed-over, store-behind, next-swept, swept-as}
 use Rattle.sweep.proofs.Promised.{one-inside, one-outside, all-swept}
 use borrow.Author.Needs.{needs}
@@ -75,7 +75,11 @@ sweep-one-requires c κs =
     record { places = l .inv .0; inside = omega arith; begun = omega arith; reached = omega arith; small = omega arith }
 
 list-one-requires : tie.Need-list-one-requires Inv-loop μ-loop
-list-one-requires c κs =
+list-one-requires c κs = search needs
+
+-- there is room for one more
+room : (c : tie.After-list-one-arg Inv-loop μ-loop) → c .before .before .before .before .before .before .before .loop .found < length (c .before .before .before .before .before .before .before .loop .positions)
+room c =
     let s = c .before .before .before .before .before .before .before .before .before .before .before .before .before in
     let i = c .before .before .before .before .before .before .before .loop .inv .2 in
     let f = i .few in
@@ -96,10 +100,12 @@ loop-again-2 c =
     let x = c .before .before .before .before .before .before .before .wide32 .ensures .0 in
     let t = c .before .before .before .before .before .before .if1 .left in
     let r = s .pre in
+    let whole = c .before .before .before .before .sweep-one .result .whole in
+    let count = c .before .before .list-one .ensures .1 ∙ count-within (l .positions) (l .found) whole (room (c .before .before .before)) in
     let i : getD (now (s .args .windows)) (l .k) 0 + placesOf (now (s .args .low)) (now (s .args .high)) ≤ length (now (s .args .trace)) = omega arith in (
       e,
-      rw (c .before .before .list-one .ensures .0, c .before .before .list-one .ensures .1) (store-behind (l .positions) (now (s .args .positions)) (l .found) (getD (now (s .args .windows)) (l .k) 0) (c .before .before .before .before .sweep-one .result .whole) (l .inv .1)),
-      rw (c .before .before .list-one .ensures .0, c .before .before .list-one .ensures .1)
+      rw (c .before .before .list-one .ensures .0, count) (store-behind (l .positions) (now (s .args .positions)) (l .found) (getD (now (s .args .windows)) (l .k) 0) whole (l .inv .1)),
+      rw (c .before .before .list-one .ensures .0, count)
           (next-swept
           (rest-as (one-inside _ (length (now (s .args .trace))) (now (s .args .windows)) (l .k) h i) (l .inv .2))
           h (s .pre) (swept-as (l .reach) e x (c .before .before .before .before .before .larger .ensures) (c .before .before .before .before .sweep-one .ensures)) i),

@@ -1,0 +1,4 @@
+-- What the functions inside this crate ask of each other and tell; none of it is promised to a caller.
+pub mod Codes
+pub mod Asked
+pub mod Stacks

@@ -1,0 +1,16 @@
+// What the duels answer. Follows docs/RULES.md, "Duels" and "Refusals", numbers 1 to 5 and 7: specs/DuelPromise.antt gives each case its
+// number and values. Types alone.
+
+use order::Refusal;
+
+// How many windows are kept, and how many duels were fought.
+pub struct Duelled {
+    pub kept: usize,
+    pub fought: u32,
+}
+
+// What was fought, or why nothing was.
+pub enum Duels {
+    Done(Duelled),
+    Refused(Refusal),
+}

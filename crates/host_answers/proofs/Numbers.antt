@@ -1,0 +1,35 @@
+-- Shows: a refusal's number is small, so that the result fits its 64 bits, and not 0, so that only an accepted call's result is 0;
+-- and the result is made of number and place.
+-- Assumes nothing.
+use Prim.Native.Nat.{ℕ, _+_, _*_, _≤_, min}
+use mathlib.Core.Path.{_≡_, refl}
+use native.Mathlib.Omega.{arith}
+use Rattle.order.specs.declared.refusal.Refusal.{Refusal}
+use Rattle.order.specs.declared.refusal.Refusal.the-variants.{EmptyPattern, LongPattern, ShortTable, LongTrace, ShortSurvivors, ShortPositions, ForeignEntry, ShortRecording, WrongMark, WrongDistance, LongDistance, ShortSamples, LongInput}
+use Rattle.order.specs.Refusals.{Verdict, accepted, refused, numberOf, placeOf}
+use Rattle.host_answers.specs.Results.{refusalResult, resultOf}
+
+pub number-range : (r : Refusal) → (1 ≤ numberOf r) × (numberOf r ≤ 13)
+number-range EmptyPattern = (omega arith, omega arith)
+number-range (LongPattern m) = (omega arith, omega arith)
+number-range (ShortTable t) = (omega arith, omega arith)
+number-range (LongTrace n) = (omega arith, omega arith)
+number-range (ShortSurvivors n) = (omega arith, omega arith)
+number-range (ShortPositions n) = (omega arith, omega arith)
+number-range (ForeignEntry k) = (omega arith, omega arith)
+number-range (ShortRecording l) = (omega arith, omega arith)
+number-range (WrongMark p) = (omega arith, omega arith)
+number-range (WrongDistance p) = (omega arith, omega arith)
+number-range (LongDistance p) = (omega arith, omega arith)
+number-range (ShortSamples n) = (omega arith, omega arith)
+number-range LongInput = (omega arith, omega arith)
+
+pub result-made : (r : Refusal) {n p q : ℕ} → n ≡ numberOf r → p ≡ placeOf r → q ≡ min p 4294967295 → n * 4294967296 + q ≡ refusalResult r
+unfolding refusalResult
+result-made r a b c = rw (a, c, b) refl
+
+-- a result of 0 tells that the call was accepted
+pub only-accepted : (v : Verdict) → resultOf v ≡ 0 → v ≡ accepted
+unfolding refusalResult
+only-accepted accepted e = refl
+only-accepted (refused r) e = absurd (omega (arith, number-range r .0))

@@ -1,0 +1,14 @@
+-- `capped` meets its contract.
+-- Assumes nothing.
+use native.Mathlib.Omega.{arith}
+use Rattle.host_answers.proofs.results.capped.Statement.{statement}
+use Rattle.host_answers.proofs.results.capped.Tie as tie
+
+returns : tie.Need-returns
+returns c = omega arith
+
+returns-2 : tie.Need-returns-2
+returns-2 c = omega arith
+
+pub capped-spec : {M : Type 1} → statement M
+capped-spec = tie.close (tie.spec returns returns-2)

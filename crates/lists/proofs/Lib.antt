@@ -1,0 +1,3 @@
+-- The laws that the functions' proofs cite, and what callers need.
+pub mod OneMore
+pub mod FilledUp

@@ -1,0 +1,2 @@
+-- What a buffer that holds a list of windows becomes.
+pub mod Lists
