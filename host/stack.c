@@ -260,7 +260,7 @@ static void own_searches(int kind, size_t m, int trace, size_t n)
 
 /*
  * Searches with a foreign entry in each table, at its start or its end: none where a place was named and one where none was, or
- * another place. Foreign neighbours have the pattern prepared again inside, foreign witnesses have not.
+ * another place. Foreign neighbours have the pattern's own written inside, foreign witnesses its witnesses.
  */
 static void foreign_searches(int kind, size_t m, size_t n)
 {
@@ -273,7 +273,7 @@ static void foreign_searches(int kind, size_t m, size_t n)
         for (way = 0; way < 4; way++) {
             size_t at = way & 1 ? m - 1 : 0;
             unsigned own = entry(table, at), other = way & 2 ? own ^ 1 : own == TENSION_NONE ? 0 : TENSION_NONE;
-            uint64_t must = refusal(TENSION_FOREIGN_ENTRY, at);
+            uint64_t must = refusal(TENSION_FOREIGN_LOW + (table - LOW), at);
 
             put_entry(table, at, other);
             measure(group, search, must, format, kinds[kind], m, n, tables[table], at, other);

@@ -22,6 +22,10 @@
 extern "C" {
 #endif
 
+/* The version of calls and answers; CHANGELOG.md says what moved with each. */
+#define TENSION_VERSION_MAJOR 1
+#define TENSION_VERSION_MINOR 1
+
 /* Limits, in samples. */
 #define TENSION_PATTERN_LIMIT 1024
 #define TENSION_TRACE_LIMIT 65536
@@ -40,13 +44,16 @@ extern "C" {
 
 /* Refusal numbers. The place that goes with each: */
 #define TENSION_ACCEPTED 0
-#define TENSION_EMPTY_PATTERN 1   /* 0 */
-#define TENSION_LONG_PATTERN 2    /* the pattern's length */
-#define TENSION_SHORT_TABLE 3     /* the table: 1 low, 2 high, 3 witness i, 4 witness j */
-#define TENSION_LONG_TRACE 4      /* the trace's length */
-#define TENSION_SHORT_SURVIVORS 5 /* the entries needed, N */
-#define TENSION_SHORT_POSITIONS 6 /* the entries needed, N */
-#define TENSION_FOREIGN_ENTRY 7   /* the lowest entry that is not the pattern's own */
+#define TENSION_EMPTY_PATTERN 1      /* 0 */
+#define TENSION_LONG_PATTERN 2       /* the pattern's length */
+#define TENSION_SHORT_TABLE 3        /* the table: 1 low, 2 high, 3 witness i, 4 witness j */
+#define TENSION_LONG_TRACE 4         /* the trace's length */
+#define TENSION_SHORT_SURVIVORS 5    /* the entries needed, N */
+#define TENSION_SHORT_POSITIONS 6    /* the entries needed, N */
+#define TENSION_FOREIGN_LOW 14       /* the lowest entry of low that is not the pattern's own */
+#define TENSION_FOREIGN_HIGH 15      /* the lowest of high, where low is the pattern's own */
+#define TENSION_FOREIGN_WITNESS_I 16 /* the lowest of witness i, where low and high are */
+#define TENSION_FOREIGN_WITNESS_J 17 /* the lowest of witness j, where the other three are */
 
 /* What a call answers, taken apart. A place above 4294967295 is given as 4294967295. */
 #define TENSION_NUMBER(answer) ((uint32_t)((answer) >> 32))
@@ -66,7 +73,7 @@ uint64_t tension_prepare(const uint8_t *pattern, size_t pattern_bytes,
  * Searches a trace of n samples (0 to 65,536) for the pattern, with the tables that tension_prepare made of it. With N = n - m + 1
  * windows (0 where n < m), survivors and positions need room for N entries each; entries 0 to N - 1 are written: the list, then
  * TENSION_UNUSED. positions lists all windows in the pattern's order, ascending. counts takes as many of the five counts as it
- * has whole entries for. Answers 0, or a refusal (1 to 7), and then no byte of a buffer has changed.
+ * has whole entries for. Answers 0, or a refusal (1 to 6, 14 to 17), and then no byte of a buffer has changed.
  */
 uint64_t tension_search(const uint8_t *pattern, size_t pattern_bytes,
                         const uint8_t *low, size_t low_bytes,

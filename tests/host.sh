@@ -16,6 +16,12 @@ printf '#include "tension.h"\nint used(void) { return TENSION_COUNTS; }\n' >"$wo
 "${cxx[@]}" -x c++ -std=c++11 -pedantic -Wall -Werror -Ihost -fsyntax-only "$work/header.c"
 echo "host: the header compiles as C89 with stdint.h, C11 and C++"
 
+# one version in the header, the pkg-config file and the newest entry of the changelog
+version=$(sed -n 's/^#define TENSION_VERSION_M[AI][JN]OR //p' host/tension.h | paste -s -d .)
+grep -qx "Version: $version" host/tension.pc.in
+[ "## $version" = "$(grep -m 1 '^## ' CHANGELOG.md)" ]
+echo "host: version $version"
+
 "${cc[@]}" -std=c99 -O2 -Wall -Wextra -Ihost host/example.c "$archive" -o "$work/example"
 "${cc[@]}" -std=c99 -O2 -Wall -Wextra -Ihost host/replay.c "$archive" -o "$work/replay"
 # static, so that what the loader takes at a first call is not measured with it

@@ -277,7 +277,9 @@ def search_corners():
         yield exact_search(pattern, trace)
     for number in range(1, 5):                      # each table altered by itself
         yield exact_search(P, T, damages=[(number, 3, 5)])
-    yield exact_search(P, T, damages=[(4, 1, NONE), (1, 3, NONE)])
+        for later in range(number + 1, 5):          # and a later one with it, at a lower entry
+            yield exact_search(P, T, damages=[(later, 0, 5), (number, 3, 5)])
+    yield exact_search(P, T, damages=[(4, 3, 5), (4, 1, 5)])
     yield Search(P, [5] * 4, T, 8, 8, [(2, 4, 77)])  # altered past m: no matter
     yield Search(P, [4, 4, 3, 3], T, 7, 7)
     yield Search(P, [4] * 4, T, 7, 7)

@@ -18,13 +18,16 @@ class Refused(Exception):
         4: "the trace is too long",
         5: "the survivors buffer is too short",
         6: "the positions buffer is too short",
-        7: "the tables are not the pattern's",
         8: "too short to hold a trailer",
         9: "the mark is wrong",
         10: "distance and count do not fit together",
         11: "the distance leads before the first byte",
         12: "the sample buffer is too short",
         13: "the input is too long",
+        14: "the low table is not the pattern's",
+        15: "the high table is not the pattern's",
+        16: "the witness i table is not the pattern's",
+        17: "the witness j table is not the pattern's",
     }
 
     def __init__(self, number, place):
@@ -59,12 +62,6 @@ def list_lengths(count, survivors, positions):
         raise Refused(6, count)
 
 
-def table_entries(m, given, fresh):
-    for entry in range(m):
-        if any(g[entry] != f[entry] for g, f in zip(given, fresh)):
-            raise Refused(7, entry)
-
-
 def recording_length(length, trailer):
     if length < trailer:
         raise Refused(8, length)
@@ -91,3 +88,11 @@ def sample_room(room, count):
 def input_length(length):
     if length > INPUT_MAX:
         raise Refused(13, INPUT_MAX)
+
+
+def table_entries(m, given, fresh):
+    """Table by table in their order, and of the first that differs the lowest entry."""
+    for number, (table, right) in enumerate(zip(given, fresh), 14):
+        for entry in range(m):
+            if table[entry] != right[entry]:
+                raise Refused(number, entry)

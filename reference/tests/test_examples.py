@@ -86,7 +86,7 @@ class Examples(unittest.TestCase):
         for number in range(4):
             tables = rules.tables(P)
             tables[number][3] ^= 1
-            self.assertEqual(refusal(calls.search, P, tables, [1], [], []), (7, 3))
+            self.assertEqual(refusal(calls.search, P, tables, [1], [], []), (14 + number, 3))
 
 
 class Slips(unittest.TestCase):

@@ -128,7 +128,8 @@ class Searching(unittest.TestCase):
     def test_refusals_in_order(self):
         good, trace, room = rules.tables(P), [1] * 9, [0] * 6
         bad = rules.tables(P)
-        bad.low[2] = bad.witness_j[1] = 7
+        for number in range(4):                     # each later table at a lower entry
+            bad[number][3 - number] = 7
         cut = Tables(bad.low, bad.high[:3], bad.witness_i, bad.witness_j[:3])
         none, long = Tables([], [], [], []), [1] * 65537
 
@@ -145,7 +146,9 @@ class Searching(unittest.TestCase):
         self.assertEqual(answer(P, bad, long, [], []), (4, 65537))
         self.assertEqual(answer(P, bad, trace, room[:5], room[:5]), (5, 6))
         self.assertEqual(answer(P, bad, trace, room[:], room[:5]), (6, 6))
-        self.assertEqual(answer(P, bad, trace, room[:], room[:]), (7, 1))
+        for number in range(4):
+            self.assertEqual(answer(P, bad, trace, room[:], room[:]), (14 + number, 3 - number))
+            bad[number][3 - number] = good[number][3 - number]
         self.assertIsNone(answer(P, good, trace, room[:], room[:]))
 
 

@@ -57,7 +57,7 @@ class Lines(unittest.TestCase):
                 (stream.Search(p, [4] * 4, t, 10, 8),
                  "search 0 0 8 5 3 12 3\nsurvivors 0 3 7 u5 g2\npositions 0 3 7 u5\n"),
                 (stream.Search(p, [4] * 4, t, 10, 8, [(3, 2, 9)]),
-                 "search 7 2\nsurvivors g10\npositions g8\n"),
+                 "search 16 2\nsurvivors g10\npositions g8\n"),
                 (stream.Search([0] * 1025, [1100] * 4, [], 0, 0),
                  "search 2 1025\nsurvivors\npositions\n"),
                 (stream.Agree(2, [NONE, 0], [NONE, 1], 4, 5), "agree 0 0\n"),
@@ -82,11 +82,20 @@ class Spread(unittest.TestCase):
         return Counter(tuple(line.split()[:take]) for line in lines if line.startswith(kind))
 
     def test_every_refusal_comes_up(self):
-        for kind, numbers in (("prepare", (0, 1, 2, 3)), ("search", range(8)),
+        for kind, numbers in (("prepare", (0, 1, 2, 3)), ("search", (*range(7), *range(14, 18))),
                               ("agree", (0, 1, 2, 3)), ("read", (0, 8, 9, 10, 11, 12))):
             found = self.heads(kind, 600)
             self.assertEqual(set(found), {(kind, str(number)) for number in numbers})
             self.assertGreater(found[kind, "0"], 300)
+
+    def test_the_first_table_that_differs_decides(self):
+        met = {(*case.expected().split()[1:3], *sorted(d[:2] for d in case.damages))
+               for case in generate.search_corners() if case.damages}
+        for first in range(1, 5):
+            self.assertIn((str(13 + first), "3", (first, 3)), met)
+            for later in range(first + 1, 5):
+                self.assertIn((str(13 + first), "3", (first, 3), (later, 0)), met)
+        self.assertIn(("17", "1", (4, 1), (4, 3)), met)
 
     def test_every_word_comes_up(self):
         text = "".join(case.expected() for case in generate.cases("report", 600, 11))

@@ -1,6 +1,5 @@
 -- Shows: a stack in a buffer's first entries, with "unused" behind it, is what the duels' promise says; the conditions on their lengths are
--- a search's with tables and positions that refuse nothing, and those on the entries follow them; and no second answer, nor other content
--- of the buffer, satisfies the promise.
+-- a search's with tables and positions that refuse nothing; and no second answer, nor other content of the buffer, satisfies the promise.
 -- Assumes nothing.
 use Prim.Native.Nat.{ℕ, _+_, _-_, _≤_, _<_}
 use mathlib.Core.Path.{_≡_, refl, sym, _∙_, ap, ap₂, subst}
@@ -12,25 +11,23 @@ use lib.IntN.{ℤ}
 use lib.ListN.{length, take, drop, replicate, length-reverse, take-append-drop}
 use borrow.Author.Tests.{le-ltb, ne-eqb}
 use Rattle.order.specs.declared.refusal.Refusal.{Refusal}
-use Rattle.order.specs.declared.refusal.Refusal.the-variants.{LongTrace, ShortSurvivors, ShortPositions, ForeignEntry}
-use Rattle.order.specs.Sizes.{none, place, unused, lowest, patternLimit, traceLimit, windowsOf}
+use Rattle.order.specs.declared.refusal.Refusal.the-variants.{LongTrace, ShortSurvivors, ShortPositions}
+use Rattle.order.specs.Sizes.{Spot, none, place, unused, lowest, patternLimit, traceLimit, windowsOf}
 use Rattle.order.specs.Duels.{Stack}
-use Rattle.order.specs.Refusals.{Verdict, accepted, refused, refuse, patternVerdict, tablesVerdict, witnessesVerdict, roomVerdict, ownVerdict, verdictNumber, verdictPlace}
+use Rattle.order.specs.Refusals.{Verdict, accepted, refuse, patternVerdict, tablesVerdict, witnessesVerdict, roomVerdict}
 use Rattle.order.specs.Written.{over, filled}
 use Rattle.sizes.specs.declared.answers.Fitting.{Fitting}
 use Rattle.sizes.specs.declared.answers.Fitting.the-variants.{Fit, Refused as Unfit}
+use Rattle.sizes.specs.Answers.{fittingBy}
 use Rattle.sizes.specs.Lengths.{lengthsVerdict, LengthsPromise}
-use Rattle.order.proofs.Rows.{then-row, row-refuses, both-pass}
-use Rattle.sizes.proofs.VerdictRows.{sizes, sizes-row, room-row}
 use Rattle.sizes.proofs.Verdicts.{fit-accepted, unfit-why, pattern-passed, tables-passed, room-passed}
 use Rattle.lists.proofs.FilledUp.{written-out}
 use Rattle.duels.specs.declared.answers.Duelled.{Duelled}
 use Rattle.duels.specs.declared.answers.Duels.{Duels}
-use Rattle.duels.specs.declared.answers.Duels.the-variants.{Done, Refused}
-use Rattle.duels.specs.DuelPromise.{untoldAt, stackBy, duelVerdict, duelsNumber, duelsPlace, duelsBy, duelledOf, DuelPromise}
+use Rattle.duels.specs.declared.answers.Duels.the-variants.{Done, Refused, Untold}
+use Rattle.duels.specs.DuelPromise.{untoldAt, stackBy, duelVerdict, duelsNumber, duelsPlace, duelsBy, afterDuels, duelledOf, DuelPromise}
 use Rattle.duels.specs.Inside.Asked.{Arriving}
 use Rattle.duels.specs.Inside.Stacks.{DuelsOf, KeptOf, Fought}
-use Rattle.duels.proofs.CodeLaws.{all-clear}
 use Rattle.duels.proofs.StackLaws.{length-top, reverse-top}
 
 -- ---- the buffer
@@ -67,115 +64,96 @@ module _ {P : List ℤ} {wi wj : List ℕ} {T : List ℤ} {windows : ℕ} {befor
 
 module _ {P : List ℤ} {wi wj : List ℕ} {T : List ℤ} {before : List ℕ} where
   pub fought : {d : Duelled} {after : List ℕ} → lowest (untoldAt P wi wj) (length P) ≡ none → KeptOf P wi wj T before after (d .kept) (d .fought) → Fought P wi wj T before after (Done d)
-  unfolding ownVerdict
   fought {d} e k =
       record {
         answer = rw e (ap Done (ap₂ (λ p q. record { kept = p; fought = q }) (k .number) (k .fought-is)));
-        written = rw e (k .written);
+        written = k .written;
         bound = λ c g. let same : d ≡ c = cc in subst (λ (u : Duelled). u .fought + u .kept ≤ windowsOf (length P) (length T)) same (k .count);
       }
 
-  pub not-fought : {r : ℕ} → lowest (untoldAt P wi wj) (length P) ≡ place r → Fought P wi wj T before before (Refused (ForeignEntry r))
-  unfolding ownVerdict
-  not-fought e = record { answer = rw e refl; written = rw e refl; bound = λ c g. absurd (let z : _≡_ {A = ℕ} 0 1 = cc in omega arith) }
+  pub not-fought : {r : ℕ} → lowest (untoldAt P wi wj) (length P) ≡ place r → Fought P wi wj T before before (Untold r)
+  not-fought e = record { answer = rw e refl; written = refl; bound = λ c g. absurd (let z : _≡_ {A = ℕ} 0 1 = cc in omega arith) }
 
 -- ---- the conditions
 
-module _ (P : List ℤ) (wi wj : List ℕ) (n survivors : ℕ) where
-  abbrev untold : Verdict
-  untold = ownVerdict (lowest (untoldAt P wi wj) (length P))
-
+module _ (m wi wj n survivors : ℕ) where
   -- with the same room for the positions as for the survivors, 6 is never given
   room-twice : (t u : Bool) (v : Verdict)
-      → refuse t (LongTrace n) (refuse u (ShortSurvivors (windowsOf (length P) n)) (refuse u (ShortPositions (windowsOf (length P) n)) v))
-      ≡ refuse t (LongTrace n) (refuse u (ShortSurvivors (windowsOf (length P) n)) v)
+      → refuse t (LongTrace n) (refuse u (ShortSurvivors (windowsOf m n)) (refuse u (ShortPositions (windowsOf m n)) v))
+      ≡ refuse t (LongTrace n) (refuse u (ShortSurvivors (windowsOf m n)) v)
   room-twice true u v = refl
   room-twice false true v = refl
   room-twice false false v = refl
 
-  lengths-are : sizes (length P) (length P) (length P) (length wi) (length wj) (roomVerdict (length P) n survivors survivors untold) ≡ duelVerdict P wi wj n survivors
-  unfolding duelVerdict tablesVerdict roomVerdict
+  lengths-are : lengthsVerdict m m m wi wj n survivors survivors ≡ duelVerdict m wi wj n survivors
+  unfolding lengthsVerdict duelVerdict tablesVerdict roomVerdict
   lengths-are =
-      rw (le-ltb (length P) (length P) (omega arith))
-      (ap (λ v. patternVerdict (length P) (witnessesVerdict (length P) (length wi) (length wj) v)) (room-twice (ltb traceLimit n) (ltb survivors (windowsOf (length P) n)) untold))
+      rw (le-ltb m m (omega arith))
+      (ap (λ v. patternVerdict m (witnessesVerdict m wi wj v)) (room-twice (ltb traceLimit n) (ltb survivors (windowsOf m n)) accepted))
 
-  abbrev lengths : Verdict
-  lengths = lengthsVerdict (length P) (length P) (length P) (length wi) (length wj) n survivors survivors
-
-  -- lengths that are accepted, or refused whatever the entries
-  entries-decide : lengths ≡ accepted → duelVerdict P wi wj n survivors ≡ untold
-  unfolding lengthsVerdict
-  entries-decide e =
-      let b = both-pass (sizes (length P) (length P) (length P) (length wi) (length wj)) (roomVerdict (length P) n survivors survivors)
-      (sizes-row (length P) (length P) (length P) (length wi) (length wj)) (room-row (length P) n survivors survivors) e in
-      sym lengths-are ∙ b .0 (roomVerdict (length P) n survivors survivors untold) ∙ b .1 untold
-
-  lengths-decide : {why : Refusal} → lengths ≡ refused why → duelVerdict P wi wj n survivors ≡ refused why
-  unfolding lengthsVerdict
-  lengths-decide e =
-      sym lengths-are ∙
-      row-refuses (λ v. sizes (length P) (length P) (length P) (length wi) (length wj) (roomVerdict (length P) n survivors survivors v))
-      (then-row (sizes (length P) (length P) (length P) (length wi) (length wj)) (roomVerdict (length P) n survivors survivors)
-      (sizes-row (length P) (length P) (length P) (length wi) (length wj)) (room-row (length P) n survivors survivors)) e untold
-
-  -- lengths and entries that are accepted
-  pub duels-accepted : 0 < length P → length P ≤ patternLimit → length P ≤ length wi → length P ≤ length wj → n ≤ traceLimit → windowsOf (length P) n ≤ survivors
-      → ((a : ℕ) → a < length P → untoldAt P wi wj a ≡ false) → duelVerdict P wi wj n survivors ≡ accepted
-  unfolding duelVerdict patternVerdict witnessesVerdict ownVerdict
-  duels-accepted a b c d e f g =
-      rw
-      (ne-eqb (length P) 0 (λ z. omega arith), le-ltb patternLimit (length P) b, le-ltb (length wi) (length P) c, le-ltb (length wj) (length P) d, le-ltb traceLimit n e, le-ltb survivors (windowsOf (length P) n) f, all-clear P wi wj g)
-      refl
+  -- lengths that are accepted
+  pub duels-accepted : 0 < m → m ≤ patternLimit → m ≤ wi → m ≤ wj → n ≤ traceLimit → windowsOf m n ≤ survivors → duelVerdict m wi wj n survivors ≡ accepted
+  unfolding duelVerdict patternVerdict witnessesVerdict
+  duels-accepted a b c d e f =
+      rw (ne-eqb m 0 (λ z. omega arith), le-ltb patternLimit m b, le-ltb wi m c, le-ltb wj m d, le-ltb traceLimit n e, le-ltb survivors (windowsOf m n) f) refl
 
 -- ---- the promise
 
 module _ (P : List ℤ) (wi wj : List ℕ) (T : List ℤ) (before : List ℕ) where
+  abbrev verdict : Verdict
+  verdict = duelVerdict (length P) (length wi) (length wj) (length T) (length before)
+
   module _ {f : Fitting} (l : LengthsPromise (length P) (length P) (length P) (length wi) (length wj) (length T) (length before) (length before) f) where
+    by-verdict : f ≡ fittingBy verdict (windowsOf (length P) (length T))
+    by-verdict = l .answer ∙ ap (λ v. fittingBy v (windowsOf (length P) (length T))) (lengths-are (length P) (length wi) (length wj) (length T) (length before))
+
     pub duels-refused : {why : Refusal} → f ≡ Unfit why → DuelPromise P wi wj T before (Refused why) before
     duels-refused {why} e =
-        let w = lengths-decide P wi wj (length T) (length before) (unfit-why (lengths P wi wj (length T) (length before)) (windowsOf (length P) (length T)) (sym e ∙ l .answer)) in
+        let w = unfit-why verdict (windowsOf (length P) (length T)) (sym e ∙ by-verdict) in
         record {
           number = rw w refl;
           place = rw w refl;
           answer = rw w refl;
-          survivors-after = rw w refl;
+          survivors-after = refl;
           bound = λ d g. absurd (let z : _≡_ {A = ℕ} 0 1 = cc in omega arith);
         }
 
     module _ {windows : ℕ} (e : f ≡ Fit windows) where
-      fit : (lengths P wi wj (length T) (length before) ≡ accepted) × (windows ≡ windowsOf (length P) (length T))
-      fit = fit-accepted (lengths P wi wj (length T) (length before)) (windowsOf (length P) (length T)) (sym e ∙ l .answer)
+      fit : (verdict ≡ accepted) × (windows ≡ windowsOf (length P) (length T))
+      fit = fit-accepted verdict (windowsOf (length P) (length T)) (sym e ∙ by-verdict)
 
       pub duels-ready : Arriving P wi wj T windows before
       unfolding lengthsVerdict
       duels-ready =
-          let a = pattern-passed (length P) _ (fit .0) in
+          let a = pattern-passed (length P) _ (lengths-are (length P) (length wi) (length wj) (length T) (length before) ∙ fit .0) in
           let b = tables-passed (length P) (length P) (length P) (length wi) (length wj) _ (a .2) in
           let c = room-passed (length P) (length T) (length before) (length before) accepted (b .4) in
           let n = fit .1 in
           let r = c .1 in
           record { limit = a .1; i-long = b .2; j-long = b .3; trace = c .0; number = n; room = omega arith }
 
-      numbered : (v : Verdict) (d : Duelled) → duelsNumber (duelsBy v d) ≡ verdictNumber v
-      numbered accepted d = refl
-      numbered (refused r) d = refl
+      unnumbered : (s : Spot) (d : Duelled) → duelsNumber (duelsBy accepted s d) ≡ 0
+      unnumbered none d = refl
+      unnumbered (place a) d = refl
 
-      placed : (v : Verdict) (d : Duelled) → duelsPlace (duelsBy v d) ≡ verdictPlace v
-      placed accepted d = refl
-      placed (refused r) d = refl
+      unplaced : (s : Spot) (d : Duelled) → duelsPlace (duelsBy accepted s d) ≡ 0
+      unplaced none d = refl
+      unplaced (place a) d = refl
 
       pub duels-done : {r : Duels} {after : List ℕ} → Fought P wi wj T before after r → DuelPromise P wi wj T before r after
       duels-done k =
-          let w = entries-decide P wi wj (length T) (length before) (fit .0) in
-          let v = untold P wi wj (length T) (length before) in
+          let s = lowest (untoldAt P wi wj) (length P) in
+          let d = duelledOf (stackBy P wi wj T) in
           record {
-            number = rw w (ap duelsNumber (k .answer) ∙ numbered v (duelledOf (stackBy P wi wj T)));
-            place = rw w (ap duelsPlace (k .answer) ∙ placed v (duelledOf (stackBy P wi wj T)));
-            answer = rw w (k .answer);
-            survivors-after = rw w (k .written);
+            number = rw (fit .0) (ap duelsNumber (k .answer) ∙ unnumbered s d);
+            place = rw (fit .0) (ap duelsPlace (k .answer) ∙ unplaced s d);
+            answer = rw (fit .0) (k .answer);
+            survivors-after = k .written;
             bound = k .bound;
           }
 
   -- no second answer, and no other content of the buffer
   pub duels-only-answer : {r s : Duels} {after₁ after₂ : List ℕ} → DuelPromise P wi wj T before r after₁ → DuelPromise P wi wj T before s after₂ → (r ≡ s) × (after₁ ≡ after₂)
-  duels-only-answer p q = (p .answer ∙ sym (q .answer), p .survivors-after ∙ sym (q .survivors-after))
+  duels-only-answer {r} {s} p q =
+      let same : r ≡ s = p .answer ∙ sym (q .answer) in
+      (same, p .survivors-after ∙ ap (λ t. afterDuels t (filled (reverse (stackBy P wi wj T .kept)) (windowsOf (length P) (length T))) before) same ∙ sym (q .survivors-after))

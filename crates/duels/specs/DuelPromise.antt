@@ -9,14 +9,14 @@ use lib.ListN.{length, getD}
 use Rattle.order.specs.declared.steps.Meeting.{Meeting}
 use Rattle.order.specs.declared.steps.Meeting.the-variants.{Agree}
 use Rattle.order.specs.declared.refusal.Refusal.the-variants.{LongTrace, ShortSurvivors}
-use Rattle.order.specs.Sizes.{at, noPlace, lowest, traceLimit, windowsOf}
+use Rattle.order.specs.Sizes.{Spot, none, place, at, noPlace, lowest, traceLimit, windowsOf}
 use Rattle.order.specs.Relations.{rel, alike}
 use Rattle.order.specs.Duels.{duel, Stack, stacked, arriveAll, entrants}
-use Rattle.order.specs.Refusals.{Verdict, accepted, refused, refuse, numberOf, placeOf, verdictNumber, verdictPlace, patternVerdict, witnessesVerdict, ownVerdict}
-use Rattle.order.specs.Written.{filled, afterVerdict}
+use Rattle.order.specs.Refusals.{Verdict, accepted, refused, refuse, numberOf, placeOf, verdictNumber, verdictPlace, patternVerdict, witnessesVerdict}
+use Rattle.order.specs.Written.{over, filled}
 use Rattle.duels.specs.declared.answers.Duelled.{Duelled}
 use Rattle.duels.specs.declared.answers.Duels.{Duels}
-use Rattle.duels.specs.declared.answers.Duels.the-variants.{Done, Refused}
+use Rattle.duels.specs.declared.answers.Duels.the-variants.{Done, Refused, Untold}
 
 -- the entries (i, j) of offset a tell a witness: both places lie inside the pattern, also a places on, and compare otherwise there
 unfoldable pub tellsWitness : List ℤ → ℕ → ℕ → ℕ → Bool
@@ -40,28 +40,35 @@ meetsBy P wi wj T x y = cond (leb (length P) (y - x)) Agree (byEntries P T y (y 
 unfoldable pub stackBy : List ℤ → List ℕ → List ℕ → List ℤ → Stack
 stackBy P wi wj T = arriveAll (meetsBy P wi wj T) (entrants P T) (stacked [] 0)
 
--- 1 to 5, on the lengths of the pattern, the witness tables and the trace, and room for every window; then 7, at the lowest offset whose
--- entries can't be what preparation writes, since they name a place and tell no witness
-unfoldable pub duelVerdict : List ℤ → List ℕ → List ℕ → ℕ → ℕ → Verdict
-duelVerdict P wi wj n survivors =
-    patternVerdict (length P)
-    (witnessesVerdict (length P) (length wi) (length wj)
-    (refuse (ltb traceLimit n) (LongTrace n)
-    (refuse (ltb survivors (windowsOf (length P) n)) (ShortSurvivors (windowsOf (length P) n))
-    (ownVerdict (lowest (untoldAt P wi wj) (length P))))))
+-- 1 to 5, on the lengths of the pattern, the witness tables and the trace, and room for every window
+unfoldable pub duelVerdict : ℕ → ℕ → ℕ → ℕ → ℕ → Verdict
+duelVerdict m wi wj n survivors =
+    patternVerdict m
+    (witnessesVerdict m wi wj
+    (refuse (ltb traceLimit n) (LongTrace n) (refuse (ltb survivors (windowsOf m n)) (ShortSurvivors (windowsOf m n)) accepted)))
 
--- the number and place of each case of the answer, and which case a verdict comes to
+-- the number and place of a refusal, 0 of any other answer
 abbrev pub duelsNumber : Duels → ℕ
 duelsNumber (Done d) = 0
 duelsNumber (Refused r) = numberOf r
+duelsNumber (Untold a) = 0
 
 abbrev pub duelsPlace : Duels → ℕ
 duelsPlace (Done d) = 0
 duelsPlace (Refused r) = placeOf r
+duelsPlace (Untold a) = 0
 
-abbrev pub duelsBy : Verdict → Duelled → Duels
-duelsBy accepted d = Done d
-duelsBy (refused r) d = Refused r
+-- lengths that are refused; entries that can't be fought with, at the lowest such offset; or what was fought
+abbrev pub duelsBy : Verdict → Spot → Duelled → Duels
+duelsBy (refused r) s d = Refused r
+duelsBy accepted (place a) d = Untold a
+duelsBy accepted none d = Done d
+
+-- what a buffer holds after an answer: a list over what it held where the duels were fought, and otherwise what it held
+abbrev pub afterDuels : Duels → List ℕ → List ℕ → List ℕ
+afterDuels (Done d) l before = over l before
+afterDuels (Refused r) l before = before
+afterDuels (Untold a) l before = before
 
 -- how many are kept, and how many duels were fought
 abbrev pub duelledOf : Stack → Duelled
@@ -70,11 +77,11 @@ duelledOf s = record { kept = length (s .kept); fought = s .fought }
 -- the duels of all windows of the trace T by the witness tables wi and wj of the pattern P, on a stack in a buffer that holds `before`:
 -- the answer r, and what the buffer holds after it
 pub record DuelPromise (P : List ℤ) (wi wj : List ℕ) (T : List ℤ) (before : List ℕ) (r : Duels) (after : List ℕ) : Type 0 where
-  pub number : duelsNumber r ≡ verdictNumber (duelVerdict P wi wj (length T) (length before))
-  pub place : duelsPlace r ≡ verdictPlace (duelVerdict P wi wj (length T) (length before))
-  pub answer : r ≡ duelsBy (duelVerdict P wi wj (length T) (length before)) (duelledOf (stackBy P wi wj T))
-  -- the kept windows, the first at entry 0, then "unused" up to entry N − 1, then what it held; as it was if refused
-  pub survivors-after : after
-      ≡ afterVerdict (duelVerdict P wi wj (length T) (length before)) (filled (reverse (stackBy P wi wj T .kept)) (windowsOf (length P) (length T))) before
+  pub number : duelsNumber r ≡ verdictNumber (duelVerdict (length P) (length wi) (length wj) (length T) (length before))
+  pub place : duelsPlace r ≡ verdictPlace (duelVerdict (length P) (length wi) (length wj) (length T) (length before))
+  pub answer : r
+      ≡ duelsBy (duelVerdict (length P) (length wi) (length wj) (length T) (length before)) (lowest (untoldAt P wi wj) (length P)) (duelledOf (stackBy P wi wj T))
+  -- the kept windows, the first at entry 0, then "unused" up to entry N − 1, then what it held; as it was if nothing was fought
+  pub survivors-after : after ≡ afterDuels r (filled (reverse (stackBy P wi wj T .kept)) (windowsOf (length P) (length T))) before
   -- each duel drops a window
   pub bound : (d : Duelled) → r ≡ Done d → d .fought + d .kept ≤ windowsOf (length P) (length T)

@@ -1,4 +1,4 @@
-// What the duels answer. Follows docs/RULES.md, "Duels" and "Refusals", numbers 1 to 5 and 7: specs/DuelPromise.antt gives each case its
+// What the duels answer. Follows docs/RULES.md, "Duels" and "Refusals", numbers 1 to 5: specs/DuelPromise.antt gives each case its
 // number and values. Types alone.
 
 use order::Refusal;
@@ -13,4 +13,6 @@ pub struct Duelled {
 pub enum Duels {
     Done(Duelled),
     Refused(Refusal),
+    // the lowest offset whose entries name a place and tell no witness; which of the two is wrong, only preparation could tell
+    Untold(usize),
 }

@@ -1,8 +1,8 @@
 // The duels of all windows of a trace, by two witness tables as they stand.
 //
-// Follows docs/RULES.md, "Duels", "What is written" and "Refusals", numbers 1 to 5 and 7. Lengths are looked at first, then the entries, so
-// a refused call has stored nothing. Where no entry names a place a window costs a store. All other tables cost a turn an offset (codes.rt),
-// D comparisons of the trace and 2 KB of stack.
+// Follows docs/RULES.md, "Duels", "What is written" and "Refusals", numbers 1 to 5. Lengths are looked at first, then the entries, so a call
+// that fights no duels has stored nothing. Where no entry names a place a window costs a store. All other tables cost a turn an offset
+// (codes.rt), D comparisons of the trace and 2 KB of stack.
 
 use crate::answers::Duels;
 use crate::arrivals::duel_all;
@@ -11,7 +11,6 @@ use crate::codes::none_told;
 use crate::codes::write_codes;
 use lists::fill_unused;
 use order::PATTERN_LIMIT;
-use order::Refusal;
 use sizes::Fitting;
 ghost use Rattle.duels.specs.DuelPromise.{DuelPromise};
 ghost use Rattle.duels.specs.Inside.Asked.{Arriving};
@@ -33,7 +32,7 @@ fn fight(
     let mut newers = [0u8; PATTERN_LIMIT];
     let clear = write_codes(pattern, witness_i, witness_j, &mut olders, &mut newers);
     if clear < pattern.len() {
-        return Duels::Refused(Refusal::ForeignEntry(clear));
+        return Duels::Untold(clear);
     }
     let duelled = duel_all(
         pattern,

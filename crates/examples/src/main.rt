@@ -102,14 +102,36 @@ fn alter(table: &mut [u16], altered: bool) {
     }
 }
 
-// An example: the pattern's tables are prepared, one of them is altered if that is asked for, and the trace is searched.
-fn run(letter: &[u8], pattern: &[i32], trace: &[i32], altered: bool, shown: bool) {
+// The pattern's tables, of which the one with the number given is altered; 0 for none.
+fn prepare_altered(
+    pattern: &[i32],
+    low: &mut [u16],
+    high: &mut [u16],
+    witness_i: &mut [u16],
+    witness_j: &mut [u16],
+    altered: usize,
+) {
+    tables::prepare(pattern, low, high, witness_i, witness_j);
+    alter(low, altered == 1);
+    alter(high, altered == 2);
+    alter(witness_i, altered == 3);
+    alter(witness_j, altered == 4);
+}
+
+// An example: the pattern's tables are prepared, one of them altered if that is asked for, and the trace is searched.
+fn run(letter: &[u8], pattern: &[i32], trace: &[i32], altered: usize, shown: bool) {
     let mut low = [0u16; 1025];
     let mut high = [0u16; 1025];
     let mut witness_i = [0u16; 1025];
     let mut witness_j = [0u16; 1025];
-    tables::prepare(pattern, &mut low, &mut high, &mut witness_i, &mut witness_j);
-    alter(&mut witness_j, altered);
+    prepare_altered(
+        pattern,
+        &mut low,
+        &mut high,
+        &mut witness_i,
+        &mut witness_j,
+        altered,
+    );
     let mut survivors = [0u32; 65536];
     let mut positions = [0u32; 65536];
     let answer = search::search(
@@ -131,7 +153,7 @@ fn run(letter: &[u8], pattern: &[i32], trace: &[i32], altered: bool, shown: bool
 
 // Examples c to j: the answer, and both lists.
 fn example(letter: &[u8], pattern: &[i32], trace: &[i32]) {
-    run(letter, pattern, trace, false, true);
+    run(letter, pattern, trace, 0, true);
 }
 
 // Examples a and b: the four tables.
@@ -160,7 +182,7 @@ fn sizes(m: usize, n: usize) {
     let trace = [0i32; 65537];
     if m <= 1025 {
         if n <= 65537 {
-            run(b"k", &pattern[0..m], &trace[0..n], false, false);
+            run(b"k", &pattern[0..m], &trace[0..n], 0, false);
         }
     }
 }
@@ -225,9 +247,17 @@ fn recordings() {
     recording_example(&[0u8, 0, 0, 0, 0, 0, 0, 64, 75, 82, 69, 67]);
 }
 
-// Example m: entry 3 of one table altered.
-fn altered() {
-    run(b"m", &[4i32, 9, 6, 6], &[5i32, 8, 6, 6], true, false);
+// Example m: entry 3 of a table altered.
+fn altered(number: usize) {
+    run(b"m", &[4i32, 9, 6, 6], &[5i32, 8, 6, 6], number, false);
+}
+
+// Example m, table by table.
+fn foreign() {
+    altered(1);
+    altered(2);
+    altered(3);
+    altered(4);
 }
 
 fn main() {
@@ -237,5 +267,5 @@ fn main() {
     steep();
     limits();
     recordings();
-    altered();
+    foreign();
 }

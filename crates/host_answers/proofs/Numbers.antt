@@ -4,25 +4,33 @@
 use Prim.Native.Nat.{ℕ, _+_, _*_, _≤_, min}
 use mathlib.Core.Path.{_≡_, refl}
 use native.Mathlib.Omega.{arith}
+use Rattle.order.specs.declared.refusal.Table.{Table}
+use Rattle.order.specs.declared.refusal.Table.the-variants.{Low, High, WitnessI, WitnessJ}
 use Rattle.order.specs.declared.refusal.Refusal.{Refusal}
-use Rattle.order.specs.declared.refusal.Refusal.the-variants.{EmptyPattern, LongPattern, ShortTable, LongTrace, ShortSurvivors, ShortPositions, ForeignEntry, ShortRecording, WrongMark, WrongDistance, LongDistance, ShortSamples, LongInput}
-use Rattle.order.specs.Refusals.{Verdict, accepted, refused, numberOf, placeOf}
+use Rattle.order.specs.declared.refusal.Refusal.the-variants.{EmptyPattern, LongPattern, ShortTable, LongTrace, ShortSurvivors, ShortPositions, ShortRecording, WrongMark, WrongDistance, LongDistance, ShortSamples, LongInput, ForeignEntry}
+use Rattle.order.specs.Refusals.{Verdict, accepted, refused, foreignNumber, numberOf, placeOf}
 use Rattle.host_answers.specs.Results.{refusalResult, resultOf}
 
-pub number-range : (r : Refusal) → (1 ≤ numberOf r) × (numberOf r ≤ 13)
+table-range : (t : Table) → (1 ≤ foreignNumber t) × (foreignNumber t ≤ 17)
+table-range Low = (omega arith, omega arith)
+table-range High = (omega arith, omega arith)
+table-range WitnessI = (omega arith, omega arith)
+table-range WitnessJ = (omega arith, omega arith)
+
+pub number-range : (r : Refusal) → (1 ≤ numberOf r) × (numberOf r ≤ 17)
 number-range EmptyPattern = (omega arith, omega arith)
 number-range (LongPattern m) = (omega arith, omega arith)
 number-range (ShortTable t) = (omega arith, omega arith)
 number-range (LongTrace n) = (omega arith, omega arith)
 number-range (ShortSurvivors n) = (omega arith, omega arith)
 number-range (ShortPositions n) = (omega arith, omega arith)
-number-range (ForeignEntry k) = (omega arith, omega arith)
 number-range (ShortRecording l) = (omega arith, omega arith)
 number-range (WrongMark p) = (omega arith, omega arith)
 number-range (WrongDistance p) = (omega arith, omega arith)
 number-range (LongDistance p) = (omega arith, omega arith)
 number-range (ShortSamples n) = (omega arith, omega arith)
 number-range LongInput = (omega arith, omega arith)
+number-range (ForeignEntry t k) = table-range t
 
 pub result-made : (r : Refusal) {n p q : ℕ} → n ≡ numberOf r → p ≡ placeOf r → q ≡ min p 4294967295 → n * 4294967296 + q ≡ refusalResult r
 unfolding refusalResult

@@ -14,8 +14,10 @@ use lib.Seq.{take-at, length-take-le}
 use borrow.Author.Tests.{ne-eqb, le-ltb}
 use Rattle.order.specs.declared.refusal.Refusal.{Refusal}
 use Rattle.order.specs.declared.steps.Counts.{Counts}
-use Rattle.order.specs.Sizes.{none, place, lowest, orElse, patternLimit, traceLimit, windowsOf}
+use Rattle.order.specs.Sizes.{Spot, none, place, lowest, orElse, patternLimit, traceLimit, windowsOf}
 use Rattle.order.specs.Refusals.{Verdict, accepted, refused, patternVerdict, witnessesVerdict, tablesVerdict, roomVerdict, ownVerdict, foreignAt, searchVerdict}
+use Rattle.order.specs.Neighbours.{lowOf, highOf}
+use Rattle.order.specs.Witnesses.{witnessI, witnessJ}
 use Rattle.order.specs.Duels.{survivors as kept-windows}
 use Rattle.order.specs.Sweeping.{positions as listed-windows}
 use Rattle.order.specs.Written.{over, filled}
@@ -81,21 +83,25 @@ lowest-same p q (suc n) f =
 entry-same : (bs : List ℕ) (m k : ℕ) → m ≤ length bs / 2 → k < m → getD (firstEntries bs m) k 0 ≡ getD (entriesIn bs) k 0
 entry-same bs m k h l = getD-each _ m k 0 l ∙ sym (getD-each _ (length bs / 2) k 0 (omega arith))
 
-foreign-same : (P : List ℤ) (low high wi wj : List ℕ) (m k : ℕ) → Room m (length low / 2) (length high / 2) (length wi / 2) (length wj / 2) → k < m
-    → foreignAt P (firstEntries low m) (firstEntries high m) (firstEntries wi m) (firstEntries wj m) k ≡ foreignAt P (entriesIn low) (entriesIn high) (entriesIn wi) (entriesIn wj) k
+foreign-same : (bs : List ℕ) (own : ℕ → Spot) (m n : ℕ) → m ≤ length bs / 2 → n ≤ m → lowest (foreignAt (firstEntries bs m) own) n ≡ lowest (foreignAt (entriesIn bs) own) n
 unfolding foreignAt
-foreign-same P low high wi wj m k r h =
+foreign-same bs own m n h l = lowest-same _ _ n (λ k g. rw (entry-same bs m k h (omega arith)) refl)
+
+own-same : (P : List ℤ) (low high wi wj : List ℕ) (m : ℕ) → Room m (length low / 2) (length high / 2) (length wi / 2) (length wj / 2) → length P ≤ m
+    → ownVerdict P (firstEntries low m) (firstEntries high m) (firstEntries wi m) (firstEntries wj m) ≡ ownVerdict P (entriesIn low) (entriesIn high) (entriesIn wi) (entriesIn wj)
+unfolding ownVerdict
+own-same P low high wi wj m r h =
     rw (
-      entry-same low m k (r .low-room) h,
-      entry-same high m k (r .high-room) h,
-      entry-same wi m k (r .witness-i-room) h,
-      entry-same wj m k (r .witness-j-room) h,
+      foreign-same low (lowOf P) m (length P) (r .low-room) h,
+      foreign-same high (highOf P) m (length P) (r .high-room) h,
+      foreign-same wi (witnessI P) m (length P) (r .witness-i-room) h,
+      foreign-same wj (witnessJ P) m (length P) (r .witness-j-room) h,
     ) refl
 
 -- lengths that pass leave only the tables to look at
 only-own : (P : List ℤ) (low high wi wj : List ℕ) (T : List ℤ) (s p : ℕ) → Room (length P) (length low) (length high) (length wi) (length wj)
     → length T ≤ traceLimit → windowsOf (length P) (length T) ≤ s → windowsOf (length P) (length T) ≤ p
-    → searchVerdict P low high wi wj T s p ≡ ownVerdict (lowest (foreignAt P low high wi wj) (length P))
+    → searchVerdict P low high wi wj T s p ≡ ownVerdict P low high wi wj
 unfolding searchVerdict patternVerdict tablesVerdict witnessesVerdict roomVerdict
 only-own P low high wi wj T s p r t a b =
     let some = r .some in
@@ -211,7 +217,7 @@ module _ (pattern low high wi wj trace survivors positions counts : List ℕ) wh
       let all : Room (length P) (length (entriesIn low)) (length (entriesIn high)) (length (entriesIn wi)) (length (entriesIn wj)) =
       rw (long, length-each, length-each, length-each, length-each) r in
       only-own P (firstEntries low m) (firstEntries high m) (firstEntries wi m) (firstEntries wj m) T s p own (omega arith) (omega arith) (omega arith)
-      ∙ ap ownVerdict (lowest-same _ _ (length P) (λ k h. foreign-same P low high wi wj m k r (omega arith)))
+      ∙ own-same P low high wi wj m r (omega arith)
       ∙ sym (only-own P (entriesIn low) (entriesIn high) (entriesIn wi) (entriesIn wj) T (length survivors / 4) (length positions / 4) all (omega arith) (omega arith) (omega arith))
 
   pub search-put : {windows samples : ℕ} {S : List ℤ} {kept listed kept' listed' survivors' positions' counts' : List ℕ} {answer : Searched} {r : ℕ}

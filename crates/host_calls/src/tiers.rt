@@ -1,6 +1,6 @@
 // A search for a C host, in three sizes of local arrays, since every array is cleared first: a small call does not pay for large ones.
 //
-// Follows docs/RULES.md, "The C entry points", "What is written" and "Refusals", numbers 1 to 7. The lengths are checked before
+// Follows docs/RULES.md, "The C entry points", "What is written" and "Refusals". The lengths are checked before
 // anything is converted, and the tables before anything is written, so a refused call has written no byte. An accepted one takes
 // what `search::search` does and a turn for each sample and entry. Stack: 12 KB for the pattern and its tables, and for the trace
 // and the two lists up to 24 KB for 2,048 samples and 768 KB above.

@@ -1,4 +1,4 @@
--- Shows: the worked examples a to j of docs/RULES.md come out of the definitions, and with them the call on two windows and a level run, which has the
+-- Shows: the worked examples a to j and m of docs/RULES.md come out of the definitions, and with them the call on two windows and a level run, which has the
 -- rightmost of several equals as each place's neighbour. One list, one claim, by computation.
 -- Assumes nothing.
 use Prim.Native.Nat.{ℕ}
@@ -17,6 +17,7 @@ use Rattle.order.specs.Witnesses.{firstFail, neighbourAt, witnessI, witn
 use Rattle.order.specs.Agree.{agree, isNone, agreeByTable}
 use Rattle.order.specs.Duels.{fallen, duel, byWitness, meets, after, arrive, arriveAll, entrants, duelled, duels, survivors}
 use Rattle.order.specs.Sweeping.{onTest, tests, sweepOne, sweepAll, testsOf, sweptBy, sweepCost, positions}
+use Rattle.order.specs.Refusals.{verdictNumber, verdictPlace, foreignAt, ownVerdict}
 use Rattle.order.specs.Written.{occurrences}
 
 pub data Example : Type 0 where
@@ -24,6 +25,8 @@ pub data Example : Type 0 where
   tables : List ℤ → List ℕ → List ℕ → List ℕ → List ℕ → Example
   -- a pattern and a trace; N, D, the survivors, W and the listed positions
   searched : List ℤ → List ℤ → ℕ → ℕ → List ℕ → ℕ → List ℕ → Example
+  -- a pattern; what stands in its four tables; the number and place by which they are refused
+  foreign : List ℤ → List ℕ → List ℕ → List ℕ → List ℕ → ℕ → ℕ → Example
   -- a pattern's length, a table of first entries and two windows; whether the call on them says that they agree
   together : ℕ → List ℕ → ℕ → ℕ → Bool → Example
 
@@ -39,6 +42,8 @@ right (tables P low high i j) =
 right (searched P T n d s w l) =
     eqb (windowsOf (length P) (length T)) n && (eqb (duels P T) d && (sameList (survivors P T) s &&
     (eqb (sweepCost P T) w && (sameList (positions P T) l && sameList (occurrences P T) l))))
+right (foreign P low high i j n k) =
+    eqb (verdictNumber (ownVerdict P low high i j)) n && eqb (verdictPlace (ownVerdict P low high i j)) k
 right (together m ws x y b) = Bool·beq (agreeByTable m ws x y) b
 
 pub allRight : List Example → Bool
@@ -55,10 +60,23 @@ P₀ = up (4 ∷ 9 ∷ 6 ∷ 6 ∷ [])
 abbrev ∅ : ℕ
 ∅ = 65535
 
+-- its tables, a and b
+abbrev low₀ : List ℕ
+low₀ = ∅ ∷ 0 ∷ 0 ∷ 2 ∷ []
+
+abbrev high₀ : List ℕ
+high₀ = ∅ ∷ ∅ ∷ 1 ∷ 2 ∷ []
+
+abbrev i₀ : List ℕ
+i₀ = ∅ ∷ 0 ∷ 0 ∷ ∅ ∷ []
+
+abbrev j₀ : List ℕ
+j₀ = ∅ ∷ 1 ∷ 1 ∷ ∅ ∷ []
+
 pub examples : List Example
 examples =
     -- a and b
-    tables P₀ (∅ ∷ 0 ∷ 0 ∷ 2 ∷ []) (∅ ∷ ∅ ∷ 1 ∷ 2 ∷ []) (∅ ∷ 0 ∷ 0 ∷ ∅ ∷ []) (∅ ∷ 1 ∷ 1 ∷ ∅ ∷ []) ∷
+    tables P₀ low₀ high₀ i₀ j₀ ∷
     -- c
     searched P₀ (up (5 ∷ 8 ∷ 6 ∷ 6 ∷ 9 ∷ 7 ∷ 7 ∷ 2 ∷ 4 ∷ 3 ∷ 3 ∷ [])) 8 5 (0 ∷ 3 ∷ 7 ∷ []) 12 (0 ∷ 3 ∷ 7 ∷ []) ∷
     -- d
@@ -75,17 +93,29 @@ examples =
     searched (up (1 ∷ 2 ∷ 3 ∷ [])) (up (1 ∷ 2 ∷ 3 ∷ 4 ∷ 5 ∷ [])) 3 0 (0 ∷ 1 ∷ 2 ∷ []) 4 (0 ∷ 1 ∷ 2 ∷ []) ∷
     -- j
     searched (negsuc 2147483647 ∷ pos 2147483647 ∷ []) (pos 2147483647 ∷ negsuc 2147483647 ∷ pos 0 ∷ []) 2 0 (0 ∷ 1 ∷ []) 2 (1 ∷ []) ∷
+    -- m, one table after the other, and the tables as they are
+    foreign P₀ (∅ ∷ 0 ∷ 0 ∷ 3 ∷ []) high₀ i₀ j₀ 14 3 ∷
+    foreign P₀ low₀ (∅ ∷ ∅ ∷ 1 ∷ 3 ∷ []) i₀ j₀ 15 3 ∷
+    foreign P₀ low₀ high₀ (∅ ∷ 0 ∷ 0 ∷ 3 ∷ []) j₀ 16 3 ∷
+    foreign P₀ low₀ high₀ i₀ (∅ ∷ 1 ∷ 1 ∷ 3 ∷ []) 17 3 ∷
+    foreign P₀ low₀ high₀ i₀ j₀ 0 0 ∷
+    -- a later table that differs at a lower entry decides nothing, and of one table the lowest entry does
+    foreign P₀ (∅ ∷ 0 ∷ 0 ∷ 3 ∷ []) high₀ i₀ (0 ∷ 1 ∷ 1 ∷ ∅ ∷ []) 14 3 ∷
+    foreign P₀ (∅ ∷ 0 ∷ 0 ∷ 3 ∷ []) (0 ∷ ∅ ∷ 1 ∷ 2 ∷ []) i₀ j₀ 14 3 ∷
+    foreign P₀ low₀ (∅ ∷ ∅ ∷ 1 ∷ 3 ∷ []) (0 ∷ 0 ∷ 0 ∷ ∅ ∷ []) j₀ 15 3 ∷
+    foreign P₀ low₀ high₀ (∅ ∷ 0 ∷ 0 ∷ 3 ∷ []) (0 ∷ 1 ∷ 1 ∷ ∅ ∷ []) 16 3 ∷
+    foreign P₀ low₀ high₀ i₀ (∅ ∷ 0 ∷ 1 ∷ 3 ∷ []) 17 1 ∷
     -- the call on two windows, with b's table: apart by 1, by 3, by 2 and turned round, by the pattern's length; and, with an
     -- entry 0 that is no "none", by nothing
-    together 4 (∅ ∷ 0 ∷ 0 ∷ ∅ ∷ []) 5 6 false ∷
-    together 4 (∅ ∷ 0 ∷ 0 ∷ ∅ ∷ []) 5 8 true ∷
-    together 4 (∅ ∷ 0 ∷ 0 ∷ ∅ ∷ []) 7 5 false ∷
-    together 4 (∅ ∷ 0 ∷ 0 ∷ ∅ ∷ []) 1 5 true ∷
+    together 4 i₀ 5 6 false ∷
+    together 4 i₀ 5 8 true ∷
+    together 4 i₀ 7 5 false ∷
+    together 4 i₀ 1 5 true ∷
     together 4 (0 ∷ 0 ∷ 0 ∷ ∅ ∷ []) 5 5 true ∷
     -- a level run
     tables (up (6 ∷ 6 ∷ 6 ∷ [])) (∅ ∷ 0 ∷ 1 ∷ []) (∅ ∷ 0 ∷ 1 ∷ []) (∅ ∷ ∅ ∷ ∅ ∷ []) (∅ ∷ ∅ ∷ ∅ ∷ []) ∷
     []
 
 pub examples-come-out : allRight examples ≡ true
-unfolding agree isNone agreeByTable allRight right examples sameList entry windowsOf each those lowest orElse rel allBelow isIso nearer nearest lowOf highOf lowTable highTable matches sameSpot against thenHigh testOf passes cost failedAt firstFail neighbourAt witnessI witnessJ witnessITable witnessJTable fallen duel byWitness meets after arrive arriveAll entrants duelled duels survivors onTest tests sweepOne sweepAll testsOf sweptBy sweepCost positions occurrences
+unfolding foreignAt ownVerdict agree isNone agreeByTable allRight right examples sameList entry windowsOf each those lowest orElse rel allBelow isIso nearer nearest lowOf highOf lowTable highTable matches sameSpot against thenHigh testOf passes cost failedAt firstFail neighbourAt witnessI witnessJ witnessITable witnessJTable fallen duel byWitness meets after arrive arriveAll entrants duelled duels survivors onTest tests sweepOne sweepAll testsOf sweptBy sweepCost positions occurrences
 examples-come-out = refl

@@ -1,11 +1,13 @@
 -- Shows: a row of conditions either lets everything through to what follows it or refuses the same whatever follows; so rows may be
 -- tried one after the other, in several functions.
 -- Assumes nothing.
+use Prim.Native.Nat.{ℕ}
 use mathlib.Core.Path.{_≡_, refl, sym, _∙_}
 use mathlib.Core.Logic.{_⊎_, inl, inr}
 use mathlib.Core.Bool.{Bool, true, false}
 use Rattle.order.specs.declared.refusal.Refusal.{Refusal}
-use Rattle.order.specs.Refusals.{Verdict, accepted, refused, refuse}
+use Rattle.order.specs.Sizes.{Spot, none, place}
+use Rattle.order.specs.Refusals.{Verdict, accepted, refused, refuse, refuseAt}
 
 abbrev pub Passing : (Verdict → Verdict) → Type 0
 Passing f = (next : Verdict) → f next ≡ next
@@ -21,6 +23,10 @@ Row f = Passing f ⊎ ((why : Refusal) × Refusing f why)
 pub refuse-row : (b : Bool) (r : Refusal) → Row (refuse b r)
 refuse-row true r = inr (r, λ next. refl)
 refuse-row false r = inl (λ next. refl)
+
+pub refuse-at-row : (s : Spot) (r : ℕ → Refusal) → Row (refuseAt s r)
+refuse-at-row (place k) r = inr (r k, λ next. refl)
+refuse-at-row none r = inl (λ next. refl)
 
 pub then-row : (f g : Verdict → Verdict) → Row f → Row g → Row (λ n. f (g n))
 then-row f g (inl p) (inl q) = inl (λ next. p (g next) ∙ q next)
@@ -51,3 +57,7 @@ both-pass f g (inr q) s e = let d : accepted ≡ refused (q .0) = sym e ∙ q .1
 pub passed : (b : Bool) (r : Refusal) (next : Verdict) → refuse b r next ≡ accepted → (b ≡ false) × (next ≡ accepted)
 passed true r next e = (cc, cc)
 passed false r next e = (refl, e)
+
+pub passed-at : (s : Spot) (r : ℕ → Refusal) (next : Verdict) → refuseAt s r next ≡ accepted → (s ≡ none) × (next ≡ accepted)
+passed-at (place k) r next e = (cc, cc)
+passed-at none r next e = (refl, e)

@@ -1,7 +1,7 @@
 -- Shows: what the laws need of tests. Every fact about a test is an equation with `true` or `false`.
 -- Assumes nothing.
 use mathlib.Core.Path.{_≡_, refl, sym, _∙_}
-use mathlib.Core.Bool.{Bool, true, false, _&&_, _||_, Bool·beq, true≢false}
+use mathlib.Core.Bool.{Bool, true, false, _&&_, Bool·beq, true≢false}
 
 -- a test that both passes and fails shows anything
 pub clash {ℓ} : {X : Type ℓ} {b : Bool} → b ≡ true → b ≡ false → X
@@ -32,15 +32,6 @@ pub and-second : (a b : Bool) → (a && b) ≡ true → b ≡ true
 and-second true b p = p
 and-second false true p = refl
 and-second false false p = p
-
-pub or-neither-first : (a b : Bool) → (a || b) ≡ false → a ≡ false
-or-neither-first true b p = p
-or-neither-first false b p = refl
-
-pub or-neither-second : (a b : Bool) → (a || b) ≡ false → b ≡ false
-or-neither-second true true p = p
-or-neither-second true false p = refl
-or-neither-second false b p = p
 
 pub beq-same : (a b : Bool) → Bool·beq a b ≡ true → a ≡ b
 beq-same true true p = refl

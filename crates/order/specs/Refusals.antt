@@ -1,14 +1,14 @@
 -- "Refusals": the table of numbers and places, and for each call the first of its conditions that holds.
 use Prim.Native.Nat.{ℕ, _*_, _-_}
 use mathlib.Core.List.{List}
-use mathlib.Core.Bool.{Bool, true, false, not, _||_}
+use mathlib.Core.Bool.{Bool, true, false, not}
 use lib.Dec.{ltb, eqb}
 use lib.IntN.{ℤ}
 use lib.ListN.{length, getD}
 use Rattle.order.specs.declared.refusal.Table.{Table}
 use Rattle.order.specs.declared.refusal.Table.the-variants.{Low, High, WitnessI, WitnessJ}
 use Rattle.order.specs.declared.refusal.Refusal.{Refusal}
-use Rattle.order.specs.declared.refusal.Refusal.the-variants.{EmptyPattern, LongPattern, ShortTable, LongTrace, ShortSurvivors, ShortPositions, ForeignEntry, ShortRecording, WrongMark, WrongDistance, LongDistance, ShortSamples, LongInput}
+use Rattle.order.specs.declared.refusal.Refusal.the-variants.{EmptyPattern, LongPattern, ShortTable, LongTrace, ShortSurvivors, ShortPositions, ShortRecording, WrongMark, WrongDistance, LongDistance, ShortSamples, LongInput, ForeignEntry}
 use Rattle.order.specs.Sizes.{Spot, none, place, entry, lowest, patternLimit, traceLimit, inputLimit, windowsOf}
 use Rattle.order.specs.Neighbours.{lowOf, highOf}
 use Rattle.order.specs.Witnesses.{witnessI, witnessJ}
@@ -20,6 +20,13 @@ tableNumber High = 2
 tableNumber WitnessI = 3
 tableNumber WitnessJ = 4
 
+-- the number of the refusal that names the table
+abbrev pub foreignNumber : Table → ℕ
+foreignNumber Low = 14
+foreignNumber High = 15
+foreignNumber WitnessI = 16
+foreignNumber WitnessJ = 17
+
 abbrev pub numberOf : Refusal → ℕ
 numberOf EmptyPattern = 1
 numberOf (LongPattern m) = 2
@@ -27,13 +34,13 @@ numberOf (ShortTable t) = 3
 numberOf (LongTrace n) = 4
 numberOf (ShortSurvivors n) = 5
 numberOf (ShortPositions n) = 6
-numberOf (ForeignEntry k) = 7
 numberOf (ShortRecording l) = 8
 numberOf (WrongMark p) = 9
 numberOf (WrongDistance p) = 10
 numberOf (LongDistance p) = 11
 numberOf (ShortSamples n) = 12
 numberOf LongInput = 13
+numberOf (ForeignEntry t k) = foreignNumber t
 
 abbrev pub placeOf : Refusal → ℕ
 placeOf EmptyPattern = 0
@@ -42,13 +49,13 @@ placeOf (ShortTable t) = tableNumber t
 placeOf (LongTrace n) = n
 placeOf (ShortSurvivors n) = n
 placeOf (ShortPositions n) = n
-placeOf (ForeignEntry k) = k
 placeOf (ShortRecording l) = l
 placeOf (WrongMark p) = p
 placeOf (WrongDistance p) = p
 placeOf (LongDistance p) = p
 placeOf (ShortSamples n) = n
 placeOf LongInput = inputLimit
+placeOf (ForeignEntry t k) = k
 
 -- what the conditions of a call come to
 pub data Verdict : Type 0 where
@@ -68,6 +75,11 @@ verdictPlace (refused r) = placeOf r
 abbrev pub refuse : Bool → Refusal → Verdict → Verdict
 refuse true r next = refused r
 refuse false r next = next
+
+-- refused with the place where there is one, otherwise as what follows says
+abbrev pub refuseAt : Spot → (ℕ → Refusal) → Verdict → Verdict
+refuseAt (place k) r next = refused (r k)
+refuseAt none r next = next
 
 -- 1 and 2, on the pattern's length
 unfoldable pub patternVerdict : ℕ → Verdict → Verdict
@@ -89,17 +101,6 @@ prepareVerdict m low high wi wj = patternVerdict m (tablesVerdict m low high wi 
 unfoldable pub agreeVerdict : ℕ → ℕ → ℕ → Verdict
 agreeVerdict m wi wj = patternVerdict m (witnessesVerdict m wi wj accepted)
 
--- an entry of one of the four tables is not what preparation writes there
-unfoldable pub foreignAt : List ℤ → List ℕ → List ℕ → List ℕ → List ℕ → ℕ → Bool
-foreignAt P low high wi wj k =
-    not (eqb (getD low k 0) (entry (lowOf P k))) || (not (eqb (getD high k 0) (entry (highOf P k))) ||
-    (not (eqb (getD wi k 0) (entry (witnessI P k))) || not (eqb (getD wj k 0) (entry (witnessJ P k)))))
-
--- 7, at the lowest such entry below m
-unfoldable pub ownVerdict : Spot → Verdict
-ownVerdict none = accepted
-ownVerdict (place k) = refused (ForeignEntry k)
-
 -- 4 to 6, on the lengths of the trace and of the two buffers
 unfoldable pub roomVerdict : ℕ → ℕ → ℕ → ℕ → Verdict → Verdict
 roomVerdict m n survivors positions next =
@@ -107,13 +108,25 @@ roomVerdict m n survivors positions next =
     (refuse (ltb survivors (windowsOf m n)) (ShortSurvivors (windowsOf m n))
     (refuse (ltb positions (windowsOf m n)) (ShortPositions (windowsOf m n)) next))
 
--- search: 1 to 7
+-- entry k of a table is not what preparation writes there
+unfoldable pub foreignAt : List ℕ → (ℕ → Spot) → ℕ → Bool
+foreignAt table own k = not (eqb (getD table k 0) (entry (own k)))
+
+-- 14 to 17, on the tables in their order, each at its lowest such entry below m
+unfoldable pub ownVerdict : List ℤ → List ℕ → List ℕ → List ℕ → List ℕ → Verdict
+ownVerdict P low high wi wj =
+    refuseAt (lowest (foreignAt low (lowOf P)) (length P)) (ForeignEntry Low)
+    (refuseAt (lowest (foreignAt high (highOf P)) (length P)) (ForeignEntry High)
+    (refuseAt (lowest (foreignAt wi (witnessI P)) (length P)) (ForeignEntry WitnessI)
+    (refuseAt (lowest (foreignAt wj (witnessJ P)) (length P)) (ForeignEntry WitnessJ) accepted)))
+
+-- search: 1 to 6, then 14 to 17
 unfoldable pub searchVerdict : List ℤ → List ℕ → List ℕ → List ℕ → List ℕ → List ℤ → ℕ → ℕ → Verdict
 searchVerdict P low high wi wj T survivors positions =
     patternVerdict (length P)
     (tablesVerdict (length P) (length low) (length high) (length wi) (length wj)
     (roomVerdict (length P) (length T) survivors positions
-    (ownVerdict (lowest (foreignAt P low high wi wj) (length P)))))
+    (ownVerdict P low high wi wj)))
 
 -- 8 and 9: the bytes end with a trailer
 unfoldable pub trailerVerdict : List ℕ → Verdict → Verdict

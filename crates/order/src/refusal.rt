@@ -3,7 +3,7 @@
 
 use crate::limits::INPUT_LIMIT;
 ghost use mathlib.Core.Path.{_≡_};
-ghost use Rattle.order.specs.Refusals.{tableNumber, numberOf, placeOf};
+ghost use Rattle.order.specs.Refusals.{tableNumber, foreignNumber, numberOf, placeOf};
 
 // The four tables that preparation writes.
 pub enum Table {
@@ -25,6 +25,18 @@ impl Table {
             Table::WitnessJ => 4,
         }
     }
+
+    // The number of the refusal that names the table.
+    fn foreign_number(self) -> usize
+        ensures { λ r. ⌜ r ≡ foreignNumber self ⌝ }
+    {
+        match self {
+            Table::Low => 14,
+            Table::High => 15,
+            Table::WitnessI => 16,
+            Table::WitnessJ => 17,
+        }
+    }
 }
 
 // Why a call was refused, with the number that its place tells.
@@ -35,13 +47,14 @@ pub enum Refusal {
     LongTrace(usize),
     ShortSurvivors(usize),
     ShortPositions(usize),
-    ForeignEntry(usize),
     ShortRecording(usize),
     WrongMark(usize),
     WrongDistance(usize),
     LongDistance(usize),
     ShortSamples(usize),
     LongInput,
+    // a table, and the lowest of its entries that is not the pattern's own
+    ForeignEntry(Table, usize),
 }
 
 impl Refusal {
@@ -56,13 +69,13 @@ impl Refusal {
             Refusal::LongTrace(_) => 4,
             Refusal::ShortSurvivors(_) => 5,
             Refusal::ShortPositions(_) => 6,
-            Refusal::ForeignEntry(_) => 7,
             Refusal::ShortRecording(_) => 8,
             Refusal::WrongMark(_) => 9,
             Refusal::WrongDistance(_) => 10,
             Refusal::LongDistance(_) => 11,
             Refusal::ShortSamples(_) => 12,
             Refusal::LongInput => 13,
+            Refusal::ForeignEntry(t, _) => t.foreign_number(),
         }
     }
 
@@ -77,13 +90,13 @@ impl Refusal {
             Refusal::LongTrace(n) => n,
             Refusal::ShortSurvivors(windows) => windows,
             Refusal::ShortPositions(windows) => windows,
-            Refusal::ForeignEntry(at) => at,
             Refusal::ShortRecording(length) => length,
             Refusal::WrongMark(at) => at,
             Refusal::WrongDistance(at) => at,
             Refusal::LongDistance(at) => at,
             Refusal::ShortSamples(count) => count,
             Refusal::LongInput => INPUT_LIMIT,
+            Refusal::ForeignEntry(_, at) => at,
         }
     }
 }

@@ -22,9 +22,9 @@ use Rattle.order.proofs.Dueling.{arrive-alike}
 use Rattle.order.proofs.Witnessing.{witness-is, none-together}
 use Rattle.duels.specs.declared.answers.Duelled.{Duelled}
 use Rattle.duels.specs.declared.answers.Duels.{Duels}
-use Rattle.duels.specs.declared.answers.Duels.the-variants.{Done, Refused}
+use Rattle.duels.specs.declared.answers.Duels.the-variants.{Done, Refused, Untold}
 use Rattle.duels.specs.DuelPromise.{untoldAt, meetsBy, stackBy, duelVerdict, duelledOf, DuelPromise}
-use Rattle.duels.proofs.CodeLaws.{inside-told, none-clear, told-clear}
+use Rattle.duels.proofs.CodeLaws.{all-clear, inside-told, none-clear, told-clear}
 use Rattle.duels.proofs.MeetingByEntries.{far-agree as far-by-entries, none-agree, some-duel}
 use Rattle.duels.proofs.Promised.{duels-accepted}
 use Rattle.search.specs.Inside.Asked.{OwnWitnesses, Dueling, SurvivorsOf}
@@ -90,14 +90,17 @@ own-stack {P} {wi} {wj} T own = arrive-alike (meetsBy P wi wj T) (meets P T) (λ
 
 -- what the promise of the duels comes to
 module _ {P : List ℤ} {wi wj : List ℕ} {T : List ℤ} {before after : List ℕ} {r : Duels} (a : Dueling P wi wj T before) (p : DuelPromise P wi wj T before r after) where
-  passed : duelVerdict P wi wj (length T) (length before) ≡ accepted
-  passed = duels-accepted P wi wj (length T) (length before) (a .some) (a .own .limit) (a .own .i-long) (a .own .j-long) (a .trace) (a .room) (own-clear (a .own))
+  passed : duelVerdict (length P) (length wi) (length wj) (length T) (length before) ≡ accepted
+  passed = duels-accepted (length P) (length wi) (length wj) (length T) (length before) (a .some) (a .own .limit) (a .own .i-long) (a .own .j-long) (a .trace) (a .room)
 
   answered : r ≡ Done (duelledOf (duelled P T))
-  answered = p .answer ∙ rw passed (ap (λ s. Done (duelledOf s)) (own-stack T (a .own)))
+  answered = p .answer ∙ rw (passed, all-clear P wi wj (own-clear (a .own))) (ap (λ s. Done (duelledOf s)) (own-stack T (a .own)))
 
   pub never-refused : {why : Refusal} → r ≡ Refused why → ⊥
   never-refused {why} e = let q : Refused why ≡ Done (duelledOf (duelled P T)) = sym e ∙ answered in let z : _≡_ {A = ℕ} 0 1 = cc in omega arith
+
+  pub never-untold : {o : ℕ} → r ≡ Untold o → ⊥
+  never-untold {o} e = let q : Untold o ≡ Done (duelledOf (duelled P T)) = sym e ∙ answered in let z : _≡_ {A = ℕ} 0 1 = cc in omega arith
 
   pub survivors-out : {d : Duelled} → r ≡ Done d → SurvivorsOf P T before after (d .kept) (d .fought)
   unfolding survivors duels
@@ -106,5 +109,5 @@ module _ {P : List ℤ} {wi wj : List ℕ} {T : List ℤ} {before after : List �
       record {
         number = ap (λ (d : Duelled). d .kept) same ∙ sym (length-reverse (duelled P T .kept));
         fought-is = ap (λ (d : Duelled). d .fought) same;
-        written = p .survivors-after ∙ rw (passed, own-stack T (a .own)) refl;
+        written = p .survivors-after ∙ rw (e, own-stack T (a .own)) refl;
       }

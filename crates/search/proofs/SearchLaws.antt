@@ -1,27 +1,21 @@
 -- Shows: an accepted search has all that its work asks; what the work leaves meets the search's promise, the demands on the answer
 -- among it; and no second answer, nor other content of a buffer, satisfies the promise.
 -- Assumes nothing.
-use Prim.Native.Nat.{ℕ, _≤_, _<_}
-use mathlib.Core.Path.{_≡_, refl, sym, _∙_, ap, subst, subst₃}
+use Prim.Native.Nat.{ℕ, _≤_}
+use mathlib.Core.Path.{_≡_, refl, sym, _∙_, ap, subst₃}
 use mathlib.Core.List.{List}
-use mathlib.Core.Bool.{Bool, false, not, _||_}
 use native.Mathlib.Omega.{arith}
-use lib.Dec.{eqb}
 use lib.IntN.{ℤ}
-use lib.ListN.{length, getD, take}
+use lib.ListN.{length, take}
 use lib.Seq.{take-at}
 use Rattle.order.specs.declared.refusal.Refusal.{Refusal}
 use Rattle.order.specs.declared.steps.Counts.{Counts}
-use Rattle.order.specs.Sizes.{Spot, none, place, entry, lowest, windowsOf}
-use Rattle.order.specs.Neighbours.{lowOf, highOf}
-use Rattle.order.specs.Witnesses.{witnessI, witnessJ}
+use Rattle.order.specs.Sizes.{windowsOf}
 use Rattle.order.specs.Duels.{survivors}
 use Rattle.order.specs.Sweeping.{positions}
 use Rattle.order.specs.Written.{countsOf, over, filled}
 use Rattle.order.specs.Demands.{Demands}
-use Rattle.order.specs.Refusals.{Verdict, accepted, ownVerdict, foreignAt, searchVerdict}
-use Rattle.order.proofs.Tests.{or-neither-first, or-neither-second}
-use Rattle.order.proofs.Lists.{Finds, lowest-finds}
+use Rattle.order.specs.Refusals.{Verdict, searchVerdict}
 use Rattle.order.proofs.Dueling.{duels-and-survivors}
 use Rattle.order.proofs.Whole.{demands-hold}
 use Rattle.sizes.specs.declared.answers.Fitting.the-variants.{Fit, Refused as Unfit}
@@ -31,50 +25,11 @@ use Rattle.sizes.specs.Answers.{fittingBy}
 use Rattle.search.specs.Inside.Asked.{Searchable, SearchedOf}
 use Rattle.search.specs.SearchPromise.{SearchPromise}
 use Rattle.sizes.proofs.Verdicts.{fit-accepted, unfit-why, pattern-passed, tables-passed, room-passed}
-use Rattle.tables.proofs.ForeignEntries.{passes-same}
+use Rattle.tables.proofs.ForeignEntries.{accepted-own}
 use Rattle.lists.proofs.FilledUp.{filled-over}
 use Rattle.search.proofs.WrittenOut.{positions-few}
 
 -- ---- what an accepted search has
-
-own-passed : (s : Spot) → ownVerdict s ≡ accepted → s ≡ none
-unfolding ownVerdict
-own-passed none e = refl
-own-passed (place k) e = absurd (let z : _≡_ {A = ℕ} 0 1 = cc in omega arith)
-
--- no entry is foreign: every table is the pattern's own
-module _ (P : List ℤ) (low high wi wj : List ℕ) (e : lowest (foreignAt P low high wi wj) (length P) ≡ none) where
-  unforeign : (k : ℕ) → k < length P → foreignAt P low high wi wj k ≡ false
-  unforeign = subst (Finds (foreignAt P low high wi wj) (length P)) e (lowest-finds (foreignAt P low high wi wj) (length P))
-
-  abbrev off-low : ℕ → Bool
-  off-low k = not (eqb (getD low k 0) (entry (lowOf P k)))
-
-  abbrev off-high : ℕ → Bool
-  off-high k = not (eqb (getD high k 0) (entry (highOf P k)))
-
-  abbrev off-i : ℕ → Bool
-  off-i k = not (eqb (getD wi k 0) (entry (witnessI P k)))
-
-  abbrev off-j : ℕ → Bool
-  off-j k = not (eqb (getD wj k 0) (entry (witnessJ P k)))
-
-  low-own : (k : ℕ) → k < length P → getD low k 0 ≡ entry (lowOf P k)
-  unfolding foreignAt
-  low-own k h = passes-same low (λ k. entry (lowOf P k)) k (or-neither-first (off-low k) (off-high k || (off-i k || off-j k)) (unforeign k h))
-
-  rest : (k : ℕ) → k < length P → (off-high k || (off-i k || off-j k)) ≡ false
-  unfolding foreignAt
-  rest k h = or-neither-second (off-low k) (off-high k || (off-i k || off-j k)) (unforeign k h)
-
-  high-own : (k : ℕ) → k < length P → getD high k 0 ≡ entry (highOf P k)
-  high-own k h = passes-same high (λ k. entry (highOf P k)) k (or-neither-first (off-high k) (off-i k || off-j k) (rest k h))
-
-  i-own : (k : ℕ) → k < length P → getD wi k 0 ≡ entry (witnessI P k)
-  i-own k h = passes-same wi (λ k. entry (witnessI P k)) k (or-neither-first (off-i k) (off-j k) (or-neither-second (off-high k) (off-i k || off-j k) (rest k h)))
-
-  j-own : (k : ℕ) → k < length P → getD wj k 0 ≡ entry (witnessJ P k)
-  j-own k h = passes-same wj (λ k. entry (witnessJ P k)) k (or-neither-second (off-i k) (off-j k) (or-neither-second (off-high k) (off-i k || off-j k) (rest k h)))
 
 pub search-ready : (P : List ℤ) (low high wi wj : List ℕ) (T : List ℤ) (s p : ℕ) {windows : ℕ} → Fit windows ≡ fittingBy (searchVerdict P low high wi wj T s p) (windowsOf (length P) (length T))
     → Searchable P low high wi wj T windows s p
@@ -84,12 +39,12 @@ search-ready P low high wi wj T s p f =
     let a = pattern-passed (length P) _ (v .0) in
     let b = tables-passed (length P) (length low) (length high) (length wi) (length wj) _ (a .2) in
     let c = room-passed (length P) (length T) s p _ (b .4) in
-    let o = own-passed (lowest (foreignAt P low high wi wj) (length P)) (c .3) in
+    let o = accepted-own P low high wi wj (c .3) in
     record {
       some = a .0;
       number = v .1;
-      neighbours = record { limit = a .1; low-room = b .0; high-room = b .1; low-own = low-own P low high wi wj o; high-own = high-own P low high wi wj o };
-      witnesses = record { limit = a .1; i-long = b .2; j-long = b .3; i-own = i-own P low high wi wj o; j-own = j-own P low high wi wj o };
+      neighbours = record { limit = a .1; low-room = b .0; high-room = b .1; low-own = o .0; high-own = o .1 };
+      witnesses = record { limit = a .1; i-long = b .2; j-long = b .3; i-own = o .2; j-own = o .3 };
       trace = c .0;
       survivors-room = c .1;
       positions-room = c .2;

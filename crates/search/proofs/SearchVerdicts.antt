@@ -7,8 +7,8 @@ use Prim.Native.Nat.{ℕ}
 use lib.IntN.{ℤ}
 use lib.ListN.{length}
 use Rattle.order.specs.declared.refusal.Refusal.{Refusal}
-use Rattle.order.specs.Sizes.{lowest, windowsOf}
-use Rattle.order.specs.Refusals.{Verdict, accepted, refused, roomVerdict, ownVerdict, foreignAt, searchVerdict}
+use Rattle.order.specs.Sizes.{windowsOf}
+use Rattle.order.specs.Refusals.{Verdict, accepted, refused, roomVerdict, ownVerdict, searchVerdict}
 use Rattle.sizes.specs.declared.answers.Checked.{Checked}
 use Rattle.sizes.specs.declared.answers.Checked.the-variants.{Fine, Refused}
 use Rattle.sizes.specs.declared.answers.Fitting.{Fitting}
@@ -22,7 +22,7 @@ use Rattle.sizes.proofs.VerdictRows.{sizes, sizes-row, room-row}
 
 module _ (P : List ℤ) (low high wi wj : List ℕ) (T : List ℤ) (s p : ℕ) where
   abbrev own : Verdict
-  own = ownVerdict (lowest (foreignAt P low high wi wj) (length P))
+  own = ownVerdict P low high wi wj
 
   abbrev before : Verdict
   before = lengthsVerdict (length P) (length low) (length high) (length wi) (length wj) (length T) s p

@@ -72,12 +72,12 @@ fn keep_windows(
     requires { ⌜ Dueling (now pattern) (now «witness_i») (now «witness_j») (now trace) (now survivors) ⌝ }
     ensures { λ r. ⌜ SurvivorsOf (now (pattern .entry)) (now (trace .entry)) (now (survivors .entry)) (now (survivors .exit)) (r .kept) (r .fought) ⌝ }
 {
-    let answer = duel_windows(pattern, witness_i, witness_j, trace, survivors);
-    let Duels::Done(duelled) = answer else {
-        // never: the lengths were looked at
-        return Duelled { kept: 0, fought: 0 };
-    };
-    duelled
+    match duel_windows(pattern, witness_i, witness_j, trace, survivors) {
+        Duels::Done(duelled) => duelled,
+        // never, since lengths and entries were looked at
+        Duels::Refused(_) => Duelled { kept: 0, fought: 0 },
+        Duels::Untold(_) => Duelled { kept: 0, fought: 0 },
+    }
 }
 
 // The sweep, the pattern's way.

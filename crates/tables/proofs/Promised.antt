@@ -6,10 +6,9 @@ use mathlib.Core.List.{List}
 use Prim.Native.Nat.{ℕ}
 use lib.IntN.{ℤ}
 use lib.ListN.{length}
-use Rattle.order.specs.Sizes.{lowest}
 use Rattle.order.specs.Neighbours.{lowTable, highTable}
 use Rattle.order.specs.Witnesses.{witnessITable, witnessJTable}
-use Rattle.order.specs.Refusals.{Verdict, accepted, refused, prepareVerdict, ownVerdict, foreignAt, verdictNumber, verdictPlace}
+use Rattle.order.specs.Refusals.{Verdict, accepted, refused, prepareVerdict, ownVerdict, verdictNumber, verdictPlace}
 use Rattle.order.specs.declared.refusal.Refusal.{Refusal}
 use Rattle.order.specs.Written.{afterVerdict}
 use Rattle.sizes.specs.declared.answers.Checked.{Checked}
@@ -97,13 +96,13 @@ module _ (P : List ℤ) (low high wi wj : List ℕ) where
       TablesPromise P low high wi wj c
   unfolding ownTablesVerdict
   tables-refused why e g =
-      tables-promised (g ∙ ap checkedBy (sym (sizes-stay (length P) (length low) (length high) (length wi) (length wj) why (sym g ∙ e) (ownVerdict (lowest (foreignAt P low high wi wj) (length P))))))
+      tables-promised (g ∙ ap checkedBy (sym (sizes-stay (length P) (length low) (length high) (length wi) (length wj) why (sym g ∙ e) (ownVerdict P low high wi wj))))
 
   pub tables-compared : {c : Checked} → Fine ≡ checkedBy (prepareVerdict (length P) (length low) (length high) (length wi) (length wj)) →
-      c ≡ checkedBy (ownVerdict (lowest (foreignAt P low high wi wj) (length P))) → TablesPromise P low high wi wj c
+      c ≡ checkedBy (ownVerdict P low high wi wj) → TablesPromise P low high wi wj c
   unfolding ownTablesVerdict
   tables-compared e f =
-      tables-promised (f ∙ ap checkedBy (sym (sizes-through (length P) (length low) (length high) (length wi) (length wj) e (ownVerdict (lowest (foreignAt P low high wi wj) (length P))))))
+      tables-promised (f ∙ ap checkedBy (sym (sizes-through (length P) (length low) (length high) (length wi) (length wj) e (ownVerdict P low high wi wj))))
 
   pub tables-only-answer : {r s : Checked} → TablesPromise P low high wi wj r → TablesPromise P low high wi wj s → r ≡ s
   tables-only-answer p q = p .answer ∙ sym (q .answer)

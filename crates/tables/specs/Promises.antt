@@ -4,10 +4,9 @@ use mathlib.Core.List.{List}
 use Prim.Native.Nat.{ℕ}
 use lib.IntN.{ℤ}
 use lib.ListN.{length}
-use Rattle.order.specs.Sizes.{lowest}
 use Rattle.order.specs.Neighbours.{lowTable, highTable}
 use Rattle.order.specs.Witnesses.{witnessITable, witnessJTable}
-use Rattle.order.specs.Refusals.{Verdict, verdictNumber, verdictPlace, patternVerdict, tablesVerdict, prepareVerdict, ownVerdict, foreignAt}
+use Rattle.order.specs.Refusals.{Verdict, verdictNumber, verdictPlace, patternVerdict, tablesVerdict, prepareVerdict, ownVerdict}
 use Rattle.order.specs.Written.{afterVerdict}
 use Rattle.sizes.specs.declared.answers.Checked.{Checked}
 use Rattle.tables.specs.declared.answers.Prepared.{Prepared}
@@ -30,12 +29,11 @@ pub record PreparePromise (P : List ℤ) (low high wi wj : List ℕ) (r : Prepar
   pub witness-i-after : wi' ≡ afterVerdict (sizesVerdict P low high wi wj) (witnessITable P) wi
   pub witness-j-after : wj' ≡ afterVerdict (sizesVerdict P low high wi wj) (witnessJTable P) wj
 
--- 1 to 3 on the lengths, and 7 at the lowest entry that is not the pattern's own
+-- 1 to 3 on the lengths, and 14 to 17 on the entries
 unfoldable pub ownTablesVerdict : List ℤ → List ℕ → List ℕ → List ℕ → List ℕ → Verdict
 ownTablesVerdict P low high wi wj =
     patternVerdict (length P)
-    (tablesVerdict (length P) (length low) (length high) (length wi) (length wj)
-    (ownVerdict (lowest (foreignAt P low high wi wj) (length P))))
+    (tablesVerdict (length P) (length low) (length high) (length wi) (length wj) (ownVerdict P low high wi wj))
 
 -- the check of the tables low, high, wi and wj against the pattern P: the answer r
 pub record TablesPromise (P : List ℤ) (low high wi wj : List ℕ) (r : Checked) : Type 0 where

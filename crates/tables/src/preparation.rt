@@ -14,7 +14,7 @@ ghost use Rattle.tables.specs.Promises.{PreparePromise};
 ghost use Rattle.tables.specs.Inside.Asked.{TablesWritten};
 
 // Writes the pattern's tables, each from entry 0 on.
-pub(crate) fn write_tables(
+fn write_tables(
     pattern: &[i32],
     low: &mut [u16],
     high: &mut [u16],

@@ -8,12 +8,12 @@ use Rattle.order.specs.declared.steps.Meeting.{Meeting}
 use Rattle.order.specs.declared.steps.Meeting.the-variants.{Agree}
 use Rattle.order.specs.Sizes.{lowest, windowsOf}
 use Rattle.order.specs.Duels.{stacked}
-use Rattle.order.specs.Refusals.{ownVerdict}
-use Rattle.order.specs.Written.{over, filled, afterVerdict}
+use Rattle.order.specs.Refusals.{accepted}
+use Rattle.order.specs.Written.{over, filled}
 use Rattle.duels.specs.declared.answers.Duelled.{Duelled}
 use Rattle.duels.specs.declared.answers.Duels.{Duels}
 use Rattle.duels.specs.declared.answers.Duels.the-variants.{Done}
-use Rattle.duels.specs.DuelPromise.{untoldAt, stackBy, duelsBy, duelledOf}
+use Rattle.duels.specs.DuelPromise.{untoldAt, stackBy, duelsBy, afterDuels, duelledOf}
 
 -- the first k entries of a buffer, the last one on top
 unfoldable pub top : List ℕ → ℕ → List ℕ
@@ -40,7 +40,6 @@ pub record KeptOf (P : List ℤ) (wi wj : List ℕ) (T : List ℤ) (before after
 
 -- all windows have arrived, or the lowest offset is told whose entries name a place and tell no witness
 pub record Fought (P : List ℤ) (wi wj : List ℕ) (T : List ℤ) (before after : List ℕ) (r : Duels) : Type 0 where
-  pub answer : r ≡ duelsBy (ownVerdict (lowest (untoldAt P wi wj) (length P))) (duelledOf (stackBy P wi wj T))
-  pub written : after
-      ≡ afterVerdict (ownVerdict (lowest (untoldAt P wi wj) (length P))) (filled (reverse (stackBy P wi wj T .kept)) (windowsOf (length P) (length T))) before
+  pub answer : r ≡ duelsBy accepted (lowest (untoldAt P wi wj) (length P)) (duelledOf (stackBy P wi wj T))
+  pub written : after ≡ afterDuels r (filled (reverse (stackBy P wi wj T .kept)) (windowsOf (length P) (length T))) before
   pub bound : (d : Duelled) → r ≡ Done d → d .fought + d .kept ≤ windowsOf (length P) (length T)

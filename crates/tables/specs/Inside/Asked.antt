@@ -2,15 +2,12 @@
 use Prim.Native.Nat.{ℕ, _+_, _-_, _≤_, _<_}
 use mathlib.Core.Path.{_≡_}
 use mathlib.Core.List.{List}
-use mathlib.Core.Bool.{cond}
-use lib.Dec.{ltb}
 use lib.IntN.{ℤ}
 use lib.ListN.{length, getD, drop}
-use Rattle.order.specs.Sizes.{none, entry, patternLimit, place, lowest}
+use Rattle.order.specs.Sizes.{none, entry, patternLimit}
 use Rattle.order.specs.Neighbours.{lowOf, highOf, lowTable, highTable}
 use Rattle.order.specs.Witnesses.{firstFail, witnessI, witnessJ, witnessITable, witnessJTable}
 use Rattle.order.specs.Written.{over}
-use Rattle.order.specs.Refusals.{foreignAt}
 
 -- the pattern's four tables are written over what the buffers held
 pub record TablesWritten (P : List ℤ) (low high wi wj low' high' wi' wj' : List ℕ) : Type 0 where
@@ -57,7 +54,3 @@ pub record FirstDifference (table own : List ℕ) (m r : ℕ) : Type 0 where
   pub within : r ≤ m
   pub differs : r < m → getD table r 0 ≡ getD own r 0 → ⊥
   pub alike-before : (k : ℕ) → k < r → getD table k 0 ≡ getD own k 0
-
--- r is the lowest entry of the four tables that is not the pattern's own, or the pattern's length
-pub record FirstForeign (P : List ℤ) (low high wi wj : List ℕ) (r : ℕ) : Type 0 where
-  pub found : lowest (foreignAt P low high wi wj) (length P) ≡ cond (ltb r (length P)) (place r) none
