@@ -18,8 +18,12 @@ echo "host: the header compiles as C89 with stdint.h, C11 and C++"
 
 # one version in the header, the pkg-config file and the newest entry of the changelog
 version=$(sed -n 's/^#define TENSION_VERSION_M[AI][JN]OR //p' host/tension.h | paste -s -d .)
-grep -qx "Version: $version" host/tension.pc.in
-[ "## $version" = "$(grep -m 1 '^## ' CHANGELOG.md)" ]
+for other in "$(sed -n 's/^Version: //p' host/tension.pc.in)" "$(sed -n '/^## /{s/^## //p;q}' CHANGELOG.md)"; do
+  if [ "$other" != "$version" ]; then
+    echo "host: version $version in host/tension.h, and '$other' in host/tension.pc.in or CHANGELOG.md" >&2
+    exit 1
+  fi
+done
 echo "host: version $version"
 
 "${cc[@]}" -std=c99 -O2 -Wall -Wextra -Ihost host/example.c "$archive" -o "$work/example"
