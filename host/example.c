@@ -7,15 +7,14 @@
  */
 #include <stdio.h>
 #include <stdlib.h>
-#include <string.h>
 
 #include "tension.h"
 
-/* A recording in memory, and where its samples are. */
+/* A recording's samples in memory, as numbers and as the bytes that prepare and search take. */
 struct recording {
-    uint8_t *bytes;
-    const uint8_t *samples;
-    size_t sample_bytes;
+    int32_t *samples;
+    const uint8_t *bytes;
+    size_t length;
 };
 
 static uint32_t word_at(const uint8_t *p)
@@ -23,46 +22,69 @@ static uint32_t word_at(const uint8_t *p)
     return (uint32_t)p[0] | (uint32_t)p[1] << 8 | (uint32_t)p[2] << 16 | (uint32_t)p[3] << 24;
 }
 
-/* Reads a whole file and finds the samples that its trailer points back to. */
-static int load(const char *name, struct recording *r)
+static int refused(const char *what, uint64_t answer)
 {
-    FILE *f = fopen(name, "rb");
-    size_t room = 1 << 16, length = 0, got;
-    uint64_t distance, count;
-
-    if (!f) {
-        perror(name);
-        return 0;
-    }
-    r->bytes = malloc(room);
-    while (r->bytes && (got = fread(r->bytes + length, 1, room - length, f)) > 0) {
-        length += got;
-        if (length == room)
-            r->bytes = realloc(r->bytes, room *= 2);
-    }
-    fclose(f);
-    if (!r->bytes) {
-        fprintf(stderr, "%s: no memory\n", name);
-        return 0;
-    }
-    if (length < 12 || memcmp(r->bytes + length - 4, "KREC", 4) != 0) {
-        fprintf(stderr, "%s: no recording\n", name);
-        return 0;
-    }
-    distance = word_at(r->bytes + length - 12);
-    count = word_at(r->bytes + length - 8);
-    if (distance != 4 * count || distance > length - 12) {
-        fprintf(stderr, "%s: its trailer points outside\n", name);
-        return 0;
-    }
-    r->samples = r->bytes + length - 12 - distance;
-    r->sample_bytes = distance;
+    fprintf(stderr, "%s: refusal %u place %u\n", what, (unsigned)TENSION_NUMBER(answer), (unsigned)TENSION_PLACE(answer));
     return 1;
 }
 
-static int refused(const char *call, uint64_t answer)
+/* Reads a whole file into memory, or tells why not and answers NULL. */
+static uint8_t *contents(const char *name, size_t *length)
 {
-    fprintf(stderr, "%s: refusal %u place %u\n", call, (unsigned)TENSION_NUMBER(answer), (unsigned)TENSION_PLACE(answer));
+    FILE *f = fopen(name, "rb");
+    size_t room = 1 << 16, got;
+    uint8_t *bytes, *more;
+    int failed;
+
+    if (!f) {
+        perror(name);
+        return NULL;
+    }
+    *length = 0;
+    bytes = malloc(room);
+    while (bytes && (got = fread(bytes + *length, 1, room - *length, f)) > 0) {
+        *length += got;
+        if (*length == room) {
+            more = realloc(bytes, room *= 2);
+            if (!more)
+                free(bytes);
+            bytes = more;
+        }
+    }
+    failed = ferror(f);
+    fclose(f);
+    if (bytes && !failed)
+        return bytes;
+    fprintf(stderr, "%s: %s\n", name, bytes ? "not read to its end" : "no memory");
+    free(bytes);
+    return NULL;
+}
+
+/* Reads the recording that a file ends with. */
+static int load(const char *name, struct recording *r)
+{
+    size_t length, room, count, first;
+    uint8_t *file = contents(name, &length);
+    uint64_t answer;
+
+    if (!file)
+        return 0;
+    room = length / 4; /* no recording of so many bytes has more samples */
+    r->samples = malloc((room + 1) * sizeof *r->samples);
+    if (!r->samples) {
+        fprintf(stderr, "%s: no memory\n", name);
+        free(file);
+        return 0;
+    }
+    answer = tension_read(file, length, r->samples, room, &count, &first);
+    free(file);
+    if (answer) {
+        free(r->samples);
+        refused(name, answer);
+        return 0;
+    }
+    r->bytes = (const uint8_t *)r->samples;
+    r->length = count * sizeof *r->samples;
     return 1;
 }
 
@@ -84,13 +106,13 @@ int main(int argc, char **argv)
     if (!load(argv[1], &pattern) || !load(argv[2], &trace))
         return 1;
 
-    answer = tension_prepare(pattern.samples, pattern.sample_bytes, low, sizeof low, high, sizeof high,
+    answer = tension_prepare(pattern.bytes, pattern.length, low, sizeof low, high, sizeof high,
                              witness_i, sizeof witness_i, witness_j, sizeof witness_j);
     if (answer)
         return refused("prepare", answer);
-    answer = tension_search(pattern.samples, pattern.sample_bytes, low, sizeof low, high, sizeof high,
+    answer = tension_search(pattern.bytes, pattern.length, low, sizeof low, high, sizeof high,
                             witness_i, sizeof witness_i, witness_j, sizeof witness_j,
-                            trace.samples, trace.sample_bytes, survivors, sizeof survivors,
+                            trace.bytes, trace.length, survivors, sizeof survivors,
                             positions, sizeof positions, counts, sizeof counts);
     if (answer)
         return refused("search", answer);
@@ -100,7 +122,7 @@ int main(int argc, char **argv)
            (unsigned)word_at(counts + 4), (unsigned)word_at(counts + 8), (unsigned)word_at(counts + 12), (unsigned)found);
     for (k = 0; k < found; k++)
         printf("%u\n", (unsigned)word_at(positions + 4 * k));
-    free(pattern.bytes);
-    free(trace.bytes);
+    free(pattern.samples);
+    free(trace.samples);
     return 0;
 }

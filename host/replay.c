@@ -27,7 +27,7 @@ enum { TABLE = 1100, GUARD = 16, FILL = 0xAA };
  */
 enum { ROOMS = 14, EDGE = 1 << 16, ROOM = 5 << 16 };
 
-static uint8_t *rooms, before[ROOMS][ROOM];
+static uint8_t *rooms, before[ROOMS][ROOM], given[ROOM];
 static int taken, front;
 static unsigned long cases;
 
@@ -294,6 +294,112 @@ static void search_case(void)
             fail("a count depends on the buffer's length");
 }
 
+/* The bytes of a case, behind which the buffer holds guards. */
+static size_t bytes_given(void)
+{
+    size_t length = number(4);
+    if (length > ROOM || fread(given, 1, length, stdin) != length)
+        fail("the bytes of a case don't fit, or end early");
+    return length;
+}
+
+static void make_bytes(struct buffer *b, size_t length, size_t spare)
+{
+    make(b, length + spare, 1, 0);
+    memcpy(b->bytes, given, length);
+    remember(b);
+}
+
+static void show_samples(const struct buffer *b)
+{
+    size_t k = 0, run;
+    printf("samples");
+    while (k < b->entries) {
+        uint32_t v = get(b, k);
+        if (v != 0xAAAAAAAAu) {
+            printf(" %ld", (long)(int32_t)v);
+            k++;
+            continue;
+        }
+        for (run = 0; k < b->entries && get(b, k) == v; run++)
+            k++;
+        printf(" g%lu", (unsigned long)run);
+    }
+    printf("\n");
+}
+
+/* Numbers that a call stores. */
+static size_t *make_numbers(struct buffer *b, size_t count)
+{
+    make(b, count, sizeof(size_t), 0);
+    remember(b);
+    return (size_t *)(void *)b->bytes;
+}
+
+/* Reads the recording that ends with these bytes and shows it. Answers whether it was accepted, and where its first sample is. */
+static int reading(const uint8_t *bytes, size_t length, size_t room_for, size_t *at)
+{
+    struct buffer samples, told;
+    size_t *numbers;
+    uint64_t answer;
+    int free_room = taken;
+
+    make(&samples, room_for, 4, 0);
+    remember(&samples);
+    numbers = make_numbers(&told, 2);
+    answer = tension_read(bytes, length, (int32_t *)(void *)lent(&samples), room_for, &numbers[0], &numbers[1]);
+    printf("read %lu %lu", (unsigned long)TENSION_NUMBER(answer), (unsigned long)TENSION_PLACE(answer));
+    if (!answer)
+        printf(" %lu %lu", (unsigned long)numbers[0], (unsigned long)numbers[1]);
+    printf("\n");
+    look(&samples, answer ? 0 : numbers[0]);
+    look(&told, answer ? 0 : 2);
+    show_samples(&samples);
+    *at = numbers[1];
+    taken = free_room;
+    return !answer;
+}
+
+static void read_case(void)
+{
+    struct buffer bytes;
+    size_t length = bytes_given(), at;
+    make_bytes(&bytes, length, 0);
+    reading(lent(&bytes), bytes.length, number(4), &at);
+    look(&bytes, 0);
+}
+
+/* Writes, shows the whole buffer, and reads from its new length back what recordings there are, one before the other. */
+static void write_case(void)
+{
+    struct buffer buffer, list, told;
+    size_t length = bytes_given(), k, end, *stored;
+    uint64_t in_use, answer;
+
+    make_bytes(&buffer, length, number(4));
+    in_use = number(4);
+    in_use |= (uint64_t)number(4) << 32;
+    samples(&list, 0);
+    stored = make_numbers(&told, 1);
+    answer = tension_write(lent(&buffer), buffer.length, in_use, (const int32_t *)(const void *)lent(&list), list.entries, stored);
+    printf("write %lu %lu", (unsigned long)TENSION_NUMBER(answer), (unsigned long)TENSION_PLACE(answer));
+    if (!answer)
+        printf(" %lu", (unsigned long)*stored);
+    printf("\nbytes ");
+    for (k = 0; k < buffer.length; k++)
+        printf("%02x", buffer.bytes[k]);
+    printf("\n");
+    look(&list, 0);
+    look(&told, answer ? 0 : 1);
+    look(&buffer, answer ? 0 : *stored);
+    if (answer)
+        return;
+    if (memcmp(buffer.bytes, buffer.before, in_use) != 0)
+        fail("a byte in use was written");
+    for (end = *stored; reading(buffer.bytes, end, end / 4, &end);)
+        ;
+}
+
 int main(int argc, char **argv)
 {
     uint32_t kind;
@@ -310,6 +416,10 @@ int main(int argc, char **argv)
             prepare_case();
         else if (kind == 2)
             search_case();
+        else if (kind == 4)
+            read_case();
+        else if (kind == 6)
+            write_case();
         else
             fail("a kind of case that a host does not have");
     }

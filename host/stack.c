@@ -34,10 +34,12 @@ enum {
     SMALL, SMALL_FOREIGN, SMALL_REFUSED,
     LONG, LONG_FOREIGN, LONG_REFUSED,
     LARGE, LARGE_REFUSED,
+    READ, READ_REFUSED,
+    WRITTEN, WRITE_REFUSED,
     GROUPS
 };
 
-enum { PREPARE_LIMIT = 15000, BRIEF_WRITTEN = 30000, SMALL_LIMIT = 54000, LARGE_LIMIT = 960000 };
+enum { RECORDING_LIMIT = 200, PREPARE_LIMIT = 15000, BRIEF_WRITTEN = 30000, SMALL_LIMIT = 54000, LARGE_LIMIT = 960000 };
 
 static const struct group {
     const char *what;
@@ -55,6 +57,10 @@ static const struct group {
     [LONG_REFUSED] = {"tension_search, longer trace, length refused", LARGE_LIMIT, 0, 0},
     [LARGE] = {"tension_search_large", LARGE_LIMIT, SMALL_LIMIT, 0},
     [LARGE_REFUSED] = {"tension_search_large, length refused", LARGE_LIMIT, 0, 0},
+    [READ] = {"tension_read", RECORDING_LIMIT, 0, 0},
+    [READ_REFUSED] = {"tension_read, refused", RECORDING_LIMIT, 0, 0},
+    [WRITTEN] = {"tension_write", RECORDING_LIMIT, 0, 0},
+    [WRITE_REFUSED] = {"tension_write, refused", RECORDING_LIMIT, 0, 0},
 };
 
 /* A number of bytes, and the call that it was seen at. */
@@ -66,10 +72,10 @@ struct seen {
 /* Of each group: the most bytes of stack that a call took, and the most and the fewest that one wrote. */
 static struct seen most[GROUPS], fullest[GROUPS], emptiest[GROUPS];
 
-/* The buffers of a call, each with room for one entry more than the longest trace has, and the bytes of it that are handed over. */
-enum { PATTERN, LOW, HIGH, WITNESS_I, WITNESS_J, TRACE, SURVIVORS, POSITIONS, COUNTS, BUFFERS };
+/* The buffers of a call, each with room for the longest recording and one sample more, and the bytes of it that are handed over. */
+enum { PATTERN, LOW, HIGH, WITNESS_I, WITNESS_J, TRACE, SURVIVORS, POSITIONS, COUNTS, FILE_BYTES, BUFFERS };
 
-static uint8_t buffers[BUFFERS][4 * (TENSION_TRACE_LIMIT + 1)];
+static uint8_t buffers[BUFFERS][TENSION_RECORDING_BYTES(TENSION_TRACE_LIMIT + 1)];
 static size_t bytes[BUFFERS];
 static uint64_t answer;
 
@@ -90,6 +96,20 @@ static void search(void)
 static void search_large(void)
 {
     answer = tension_search_large(BUFFER(PATTERN), TABLES, BUFFER(TRACE), LISTS);
+}
+
+/* What reading and writing take beside the bytes of a file. */
+static int32_t samples[TENSION_RECORDING_LIMIT + 1];
+static size_t sample_count, in_use, stored[2];
+
+static void read_file(void)
+{
+    answer = tension_read(BUFFER(FILE_BYTES), samples, sample_count, &stored[0], &stored[1]);
+}
+
+static void write_file(void)
+{
+    answer = tension_write(BUFFER(FILE_BYTES), in_use, samples, sample_count, &stored[0]);
 }
 
 /* The painted stack, in words that no call is likely to leave there. Below `lowest` nothing has been touched since it was painted. */
@@ -316,6 +336,44 @@ static void refusals(void (*what)(void), size_t m, size_t n)
     refuse(what, m, n, POSITIONS, 4 * windows - 1, TENSION_SHORT_POSITIONS, windows);
 }
 
+/* Writes a recording behind so many bytes and reads it again; then both calls, refused by each of their numbers. */
+static void recordings(size_t count, size_t lead)
+{
+    static const char *const format = "%zu samples behind %zu bytes, refusal %u";
+    size_t end = lead + TENSION_RECORDING_BYTES(count);
+    uint8_t *trailer = buffers[FILE_BYTES] + end - 12;
+
+    sample_count = count;
+    bytes[FILE_BYTES] = end;
+    in_use = lead;
+    measure(WRITTEN, write_file, TENSION_ACCEPTED, format, count, lead, 0u);
+    measure(READ, read_file, TENSION_ACCEPTED, format, count, lead, 0u);
+    if (count > 0) {
+        sample_count = count - 1;
+        measure(READ_REFUSED, read_file, refusal(TENSION_SHORT_SAMPLES, count), format, count, lead, (unsigned)TENSION_SHORT_SAMPLES);
+    }
+    sample_count = count;
+    trailer[7] ^= 64; /* the count's highest byte: four times such a count needs more than 32 bits */
+    measure(READ_REFUSED, read_file, refusal(TENSION_WRONG_DISTANCE, end - 12), format, count, lead, (unsigned)TENSION_WRONG_DISTANCE);
+    trailer[7] ^= 64;
+    if (count > 0 && lead == 0) {
+        memmove(buffers[FILE_BYTES], trailer, 12);
+        bytes[FILE_BYTES] = 12;
+        measure(READ_REFUSED, read_file, refusal(TENSION_LONG_DISTANCE, 0), format, count, lead, (unsigned)TENSION_LONG_DISTANCE);
+        bytes[FILE_BYTES] = end;
+    }
+    trailer[8] ^= 1;
+    measure(READ_REFUSED, read_file, refusal(TENSION_WRONG_MARK, end - 4), format, count, lead, (unsigned)TENSION_WRONG_MARK);
+    bytes[FILE_BYTES] = 11;
+    measure(READ_REFUSED, read_file, refusal(TENSION_SHORT_RECORDING, 11), format, count, lead, (unsigned)TENSION_SHORT_RECORDING);
+    bytes[FILE_BYTES] = end - 1;
+    measure(WRITE_REFUSED, write_file, refusal(TENSION_SHORT_BUFFER, 0), format, count, lead, (unsigned)TENSION_SHORT_BUFFER);
+    sample_count = TENSION_RECORDING_LIMIT + 1;
+    measure(WRITE_REFUSED, write_file, refusal(TENSION_MANY_SAMPLES, 0), format, count, lead, (unsigned)TENSION_MANY_SAMPLES);
+    in_use = end;
+    measure(WRITE_REFUSED, write_file, refusal(TENSION_LONG_LEAD, 0), format, count, lead, (unsigned)TENSION_LONG_LEAD);
+}
+
 /* Says of a group what is wrong with it. */
 static int wrong(int group, const char *what, const struct seen *seen, size_t limit)
 {
@@ -373,6 +431,12 @@ int main(void)
             refusals(search, patterns[p], lengths[l]);
             refusals(search_large, patterns[p], lengths[l]);
         }
+    for (k = 0; k < 2; k++) {
+        recordings(0, k);
+        recordings(1, k);
+        recordings(1000, k);
+        recordings(TENSION_RECORDING_LIMIT, k);
+    }
     for (g = 0; g < GROUPS; g++)
         good &= within(g);
     return good ? 0 : 1;

@@ -1,16 +1,19 @@
 /*
  * tension.h - same-order search on tension traces, for C and C++ hosts.
  *
- * Two calls: tension_prepare makes a pattern's four tables, tension_search finds every window of a trace whose samples stand in
- * the same order as the pattern's (equal samples count as equal). Both are proved to meet docs/RULES.md; docs/HOST.md tells how
- * to link and what is asked of the caller.
+ * Four calls: tension_prepare makes a pattern's four tables, tension_search finds every window of a trace whose samples stand in
+ * the same order as the pattern's (equal samples count as equal); tension_read takes a recording apart, tension_write makes one. All
+ * are proved to meet docs/RULES.md; docs/HOST.md tells how to link and what is asked of the caller.
  *
- * Every buffer is a pointer and then a length in BYTES. It holds as many entries as fit into that length without being cut; what
- * is too short for one more stays untouched and unread. All numbers are little-endian: samples are signed 32 bit in two's complement, table entries are
- * unsigned 16 bit, survivors, positions and counts are unsigned 32 bit. No alignment is asked.
+ * A buffer named in bytes is a pointer and then a length in BYTES. For tension_prepare and tension_search it holds as many entries as fit
+ * into that length without being cut; what is too short for one more stays untouched and unread. All numbers in it are little-endian:
+ * samples are signed 32 bit in two's complement, table entries are unsigned 16 bit, survivors, positions and counts are unsigned 32 bit.
+ * No alignment is asked of such a buffer. tension_read and tension_write have samples as an array of int32_t, a pointer and then a number
+ * of SAMPLES; on x86-64 its bytes are just what tension_prepare and tension_search take.
  *
- * What the caller must see to: each pointer is valid for its length, and no two buffers of one call overlap. A length of 0 may go
- * with any pointer. The calls keep no state and call nothing but memcpy and memset.
+ * What the caller must see to: each pointer is valid for its length, those to int32_t and size_t are aligned for it, and no two buffers
+ * of one call overlap, nor does one overlap a number that the call stores. A length of 0 may go with any pointer to a buffer. The calls
+ * keep no state and call nothing but memcpy and memset.
  */
 #ifndef TENSION_H
 #define TENSION_H
@@ -24,11 +27,15 @@ extern "C" {
 
 /* The version of calls and answers; CHANGELOG.md says what moved with each. */
 #define TENSION_VERSION_MAJOR 1
-#define TENSION_VERSION_MINOR 1
+#define TENSION_VERSION_MINOR 2
 
 /* Limits, in samples. */
 #define TENSION_PATTERN_LIMIT 1024
 #define TENSION_TRACE_LIMIT 65536
+#define TENSION_RECORDING_LIMIT 65536 /* in one recording that is written */
+
+/* Bytes of a recording of so many samples: four each, and the trailer. For a number of samples up to TENSION_RECORDING_LIMIT. */
+#define TENSION_RECORDING_BYTES(samples) (4 * (size_t)(samples) + 12)
 
 /* A table entry that names no place, and an entry of survivors or positions that holds no window. */
 #define TENSION_NONE 65535u
@@ -50,10 +57,18 @@ extern "C" {
 #define TENSION_LONG_TRACE 4         /* the trace's length */
 #define TENSION_SHORT_SURVIVORS 5    /* the entries needed, N */
 #define TENSION_SHORT_POSITIONS 6    /* the entries needed, N */
+#define TENSION_SHORT_RECORDING 8    /* the number of bytes, below 12 */
+#define TENSION_WRONG_MARK 9         /* where the mark should begin, 4 before the end */
+#define TENSION_WRONG_DISTANCE 10    /* where the trailer begins, 12 before the end */
+#define TENSION_LONG_DISTANCE 11     /* where the trailer begins */
+#define TENSION_SHORT_SAMPLES 12     /* the number of samples */
 #define TENSION_FOREIGN_LOW 14       /* the lowest entry of low that is not the pattern's own */
 #define TENSION_FOREIGN_HIGH 15      /* the lowest of high, where low is the pattern's own */
 #define TENSION_FOREIGN_WITNESS_I 16 /* the lowest of witness i, where low and high are */
 #define TENSION_FOREIGN_WITNESS_J 17 /* the lowest of witness j, where the other three are */
+#define TENSION_LONG_LEAD 18         /* 0 */
+#define TENSION_MANY_SAMPLES 19      /* 0 */
+#define TENSION_SHORT_BUFFER 20      /* 0 */
 
 /* What a call answers, taken apart. A place above 4294967295 is given as 4294967295. */
 #define TENSION_NUMBER(answer) ((uint32_t)((answer) >> 32))
@@ -84,6 +99,26 @@ uint64_t tension_search(const uint8_t *pattern, size_t pattern_bytes,
                         uint8_t *survivors, size_t survivors_bytes,
                         uint8_t *positions, size_t positions_bytes,
                         uint8_t *counts, size_t counts_bytes);
+
+/*
+ * Reads the recording that ends with these bytes: stores its samples from entry 0 on, their number in *count and the byte at which the
+ * first begins in *first. Whatever stands before that byte is not looked at, and may be a recording again: hand over the first *first
+ * bytes to read it. samples needs room for all of them; a quarter as many entries as there are bytes is always enough. Answers 0, or a
+ * refusal (8 to 12), and then nothing has been stored.
+ */
+uint64_t tension_read(const uint8_t *bytes, size_t bytes_length,
+                      int32_t *samples, size_t samples_room,
+                      size_t *count, size_t *first);
+
+/*
+ * Writes a recording of up to 65,536 samples behind the first in_use bytes of a buffer, which takes TENSION_RECORDING_BYTES(samples_count)
+ * bytes, and stores in *length how many bytes are in use then. The bytes in use stay, and so do those past *length, so that another
+ * recording can follow. Answers 0, or a refusal (18 more in use than the buffer has, 19 too many samples, 20 no room for samples and
+ * trailer), and then nothing has been stored.
+ */
+uint64_t tension_write(uint8_t *buffer, size_t buffer_bytes, size_t in_use,
+                       const int32_t *samples, size_t samples_count,
+                       size_t *length);
 
 #ifdef __cplusplus
 }

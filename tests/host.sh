@@ -1,6 +1,6 @@
 #!/usr/bin/env bash
-# The C entry points: the header in three languages, the example, the stack, and 22,000 calls against what the reference says of them,
-# twice: once with every buffer ending right at memory that can't be touched, once beginning right after it. Some hundred calls run
+# The C entry points: the header in three languages, the example, the stack, and 28,000 cases against what the reference says of them,
+# twice: once with every buffer ending right at memory that can't be touched, once beginning right after it. Some hundred run
 # under valgrind too. Uses the archive of what the gate proved.
 set -euo pipefail
 cd "$(dirname "$0")/.."
@@ -35,7 +35,35 @@ echo 4 9 6 6 | reference/krec >"$work/pattern"
 echo 5 8 6 6 9 7 7 2 4 3 3 | reference/krec >"$work/trace"
 "${run[@]}" "$work/example" "$work/pattern" "$work/trace" >"$work/said"
 printf 'windows 8 duels 5 survivors 3 sweep 12 found 3\n0\n3\n7\n' | cmp - "$work/said"
+printf 12345 >"$work/five"
+if "${run[@]}" "$work/example" "$work/pattern" "$work/five" >"$work/said" 2>&1; then
+  echo "host: the example searches what is no recording" >&2
+  exit 1
+fi
+grep -qx "$work/five: refusal 8 place 5" "$work/said"
 echo "host: the example prints what it should"
+
+# a file of two recordings, as docs/HOST.md has a host write it
+cat >"$work/writer.c" <<'END'
+#include <stdio.h>
+#include "tension.h"
+int main(void)
+{
+    static const int32_t pattern[] = {4, 9, 6, 6}, trace[] = {5, 8, 6, 6, 9, 7, 7, 2, 4, 3, 3};
+    uint8_t file[TENSION_RECORDING_BYTES(4) + TENSION_RECORDING_BYTES(11)];
+    size_t length = 0;
+    uint64_t answer;
+
+    answer = tension_write(file, sizeof file, length, pattern, 4, &length);
+    if (!answer)
+        answer = tension_write(file, sizeof file, length, trace, 11, &length);
+    return answer || fwrite(file, 1, length, stdout) != length;
+}
+END
+"${cc[@]}" -std=c99 -O2 -Wall -Wextra -Ihost "$work/writer.c" "$archive" -o "$work/writer"
+"${run[@]}" "$work/writer" >"$work/both"
+cat "$work/pattern" "$work/trace" | cmp - "$work/both"
+echo "host: two recordings written one behind the other are the file that they should be"
 
 "${run[@]}" "$work/stack"
 
@@ -50,6 +78,8 @@ replay() { # KIND COUNT SEED [RUNNER...]
 }
 replay prepare 2000 301 "${run[@]}"
 replay search 20000 302 "${run[@]}"
+replay read 3000 305 "${run[@]}"
+replay write 3000 306 "${run[@]}"
 want valgrind=valgrind
 if [ "$native" = no ]; then
   # valgrind can't run x86-64 programs here: the same module, compiled for this machine
@@ -58,3 +88,5 @@ if [ "$native" = no ]; then
 fi
 replay search 300 303 valgrind --quiet --error-exitcode=9
 replay prepare 100 304 valgrind --quiet --error-exitcode=9
+replay read 100 307 valgrind --quiet --error-exitcode=9
+replay write 100 308 valgrind --quiet --error-exitcode=9

@@ -4,6 +4,7 @@ from typing import NamedTuple
 
 PATTERN_MAX = 1024
 TRACE_MAX = 65536
+RECORDING_MAX = 65536        # samples that are written at once
 INPUT_MAX = 16384            # bytes the program takes
 PROGRAM_PATTERN = 1024       # samples its two buffers hold
 PROGRAM_TRACE = 2048

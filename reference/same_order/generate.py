@@ -4,8 +4,8 @@ import random
 from itertools import islice
 
 from . import recording, report, rules
-from .facts import NONE, PATTERN_MAX, SAMPLE_MAX, SAMPLE_MIN, TRACE_MAX, UNUSED, windows
-from .stream import TABLE_ROOM, Agree, Prepare, Read, Report, Search
+from .facts import NONE, PATTERN_MAX, RECORDING_MAX, SAMPLE_MAX, SAMPLE_MIN, TRACE_MAX, UNUSED, windows
+from .stream import TABLE_ROOM, Agree, Prepare, Read, Report, Search, Write
 
 P = [4, 9, 6, 6]
 T = [5, 8, 6, 6, 9, 7, 7, 2, 4, 3, 3]
@@ -217,7 +217,7 @@ def read_case(rng):
         count = rng.choice((2048, 2049, 2100, 2101, 4093))
     elif draw < 8:
         count = rng.randrange(100)
-    data = recording.write(samples(rng, count))
+    data = recording.made(samples(rng, count))
     data = (edge_lead(rng, len(data)) if draw == 0 else lead(rng)) + data
     if rng.randrange(3) == 0:
         data = damaged(rng, data)
@@ -235,7 +235,7 @@ def report_case(rng):
         m, n = rng.choice(((3, 2048), (3, 2049), (1024, 1500), (1025, 1100), (1024, 2048)))
     pattern, trace = pair(rng, m, n)
     between = lead(rng) if rng.randrange(20) == 0 else b""    # hides the pattern
-    first, second = recording.write(pattern), recording.write(trace, between)
+    first, second = recording.made(pattern), recording.made(trace, between)
     first = (edge_lead(rng, len(first) + len(second)) if draw == 0 else lead(rng)) + first
     if rng.randrange(10) == 0:
         first = damaged(rng, first)
@@ -245,6 +245,25 @@ def report_case(rng):
     length = len(report.text(data))
     room = rng.choice((length, length, length + 1, length + 50, 40000, length - 1, 0))
     return Report(data, room)
+
+
+def write_case(rng):
+    """Behind no bytes, any bytes or a recording; the room exact, a byte short, or with bytes to spare."""
+    count = rng.randrange(100) if rng.randrange(50) == 0 else rng.randrange(13)
+    made = samples(rng, count)
+    front = recording.made(samples(rng, rng.randrange(6)), lead(rng)) if rng.randrange(3) == 0 else lead(rng)
+    used, size = len(front), len(recording.made(made))
+    way = rng.randrange(12)
+    if way == 0:                                    # some bytes of the front are free
+        used = rng.randrange(len(front) + 1)
+    elif way == 1:                                  # more in use than there are, by far or not
+        used += size + rng.choice((1, 2, 40, 1 << 31, (1 << 32) - 1, (1 << 62), (1 << 64) - 1 - used - size))
+    behind = rng.choice((0, 0, 0, -1, -1, 1, 2, 3, 4, 20, rng.randrange(-size, 1)))
+    length = min(used, len(front)) + size + behind
+    data = front[:length]
+    if rng.randrange(2):                            # not guards alone behind the front
+        data += rng.randbytes(rng.randrange(length - len(data) + 1))
+    return Write(data, length - len(data), used, made)
 
 
 # --- corners ---------------------------------------------------------------
@@ -313,7 +332,7 @@ def read_corners():
     def trailer(distance, count, mark=recording.MARK):
         return recording.TRAILER.pack(distance, count, mark)
 
-    empty = recording.write([])
+    empty = recording.made([])
     yield Read(empty, 0)
     yield Read(empty[1:], 0)
     yield Read(b"", 0)
@@ -321,36 +340,62 @@ def read_corners():
     yield Read(trailer(0, 0, b"KREc"), 0)
     yield Read(trailer(4, 1), 1)
     yield Read(trailer(UNUSED - 3, (1 << 30) - 1), 1)
-    yield Read(recording.write([SAMPLE_MIN, -1, SAMPLE_MAX], b"abc"), 4)
-    yield Read(recording.write([1, 2, 3]), 2)
-    yield Read(recording.write([3], recording.write(P)), 3)
+    yield Read(recording.made([SAMPLE_MIN, -1, SAMPLE_MAX], b"abc"), 4)
+    yield Read(recording.made([1, 2, 3]), 2)
+    yield Read(recording.made([3], recording.made(P)), 3)
     for count, room in ((2048, 2048), (2048, 2047), (2100, 2100), (2101, 2100)):
-        yield Read(recording.write([t % 50 for t in range(count)]), room)
+        yield Read(recording.made([t % 50 for t in range(count)]), room)
     for size in (16383, 16384, 16385):
-        yield Read(bytes(size - 24) + recording.write([1, 2, 3]), 3)
+        yield Read(bytes(size - 24) + recording.made([1, 2, 3]), 3)
 
 
 def report_corners():
-    good = recording.write(T, recording.write(P))
+    good = recording.made(T, recording.made(P))
     length = len(report.text(good))
     for room in (length, length - 1, length + 1, 0):
         yield Report(good, room)
     yield Report(good[-5:], 100)
-    yield Report(recording.write(T), 100)           # nothing before the trace
-    yield Report(recording.write(T, recording.write([])), 100)
-    yield Report(recording.write([], recording.write(P)), 100)
+    yield Report(recording.made(T), 100)           # nothing before the trace
+    yield Report(recording.made(T, recording.made([])), 100)
+    yield Report(recording.made([], recording.made(P)), 100)
     for size in (16383, 16384, 16385):
         yield Report(bytes(size - len(good)) + good, 100)
     yield Report(b"x" * 16385, 100)
     for m, n in ((1024, 2048), (1025, 10), (1, 2049)):
-        yield Report(recording.write([t % 5 for t in range(n)],
-                                     recording.write([t % 5 for t in range(m)])), 40000)
+        yield Report(recording.made([t % 5 for t in range(n)],
+                                     recording.made([t % 5 for t in range(m)])), 40000)
+
+
+def write_corners():
+    most = (1 << 64) - 1
+    yield Write(b"", 17, 1, [-2])
+    yield Write(b"", 18, 1, [-2])
+    yield Write(b"", 16, 1, [-2])
+    yield Write(b"", 12, 0, [])
+    yield Write(b"", 11, 0, [])
+    yield Write(b"", 0, 0, [])
+    yield Write(b"abc", 0, 3, [])                   # all in use: no room, but none too many
+    yield Write(b"abc", 0, 4, [])
+    yield Write(b"abc", 0, 4, [7] * (RECORDING_MAX + 1))
+    yield Write(b"", 4, 0, [7] * (RECORDING_MAX + 1))
+    yield Write(b"", 4, 5, [7] * (RECORDING_MAX + 1))
+    for used in (most, most - 11, most - 12, most - 15, (1 << 63) - 1, 1 << 63, 1 << 32):
+        yield Write(b"", 40, used, [1])             # a sum that wraps would find room
+    yield Write(recording.made(P), 56, 28, T)       # the two recordings of the program's example
+    yield Write(recording.made(T, recording.made(P)), 24, 84, [SAMPLE_MIN, -1, SAMPLE_MAX])
+    yield Write(bytes(range(256)), 0, 100, [1 << 30, -(1 << 30)])
+    long = [(t * 40503 + 7) % 65536 - 32768 for t in range(RECORDING_MAX)]
+    size = 4 * RECORDING_MAX + 12
+    yield Write(b"ab", size, 2, long)
+    yield Write(b"ab", size - 1, 2, long)
+    yield Write(b"ab", size + 1, 2, [SAMPLE_MIN] * RECORDING_MAX)
+    yield Write(b"", size + 4, 0, [5] * (RECORDING_MAX + 1))
 
 
 CORNERS = {"prepare": prepare_corners, "search": search_corners, "agree": agree_corners,
-           "read": read_corners, "report": report_corners}
+           "read": read_corners, "report": report_corners, "write": write_corners}
 DRAWS = {"prepare": prepare_case, "search": search_case, "agree": agree_case,
-         "read": read_case, "report": report_case}
+         "read": read_case, "report": report_case, "write": write_case}
 KINDS = (*DRAWS, "all")
 
 

@@ -5,7 +5,7 @@ call tries them is the order of the lines in that call (calls, recording,
 report).
 """
 
-from .facts import INPUT_MAX, PATTERN_MAX, TRACE_MAX
+from .facts import INPUT_MAX, PATTERN_MAX, RECORDING_MAX, TRACE_MAX
 
 
 class Refused(Exception):
@@ -28,6 +28,9 @@ class Refused(Exception):
         15: "the high table is not the pattern's",
         16: "the witness i table is not the pattern's",
         17: "the witness j table is not the pattern's",
+        18: "more bytes in use than the buffer has",
+        19: "too many samples for a recording",
+        20: "no room for samples and trailer",
     }
 
     def __init__(self, number, place):
@@ -96,3 +99,19 @@ def table_entries(m, given, fresh):
         for entry in range(m):
             if table[entry] != right[entry]:
                 raise Refused(number, entry)
+
+
+def lead_length(length, used):
+    if used > length:
+        raise Refused(18, 0)
+
+
+def samples_to_write(count):
+    if count > RECORDING_MAX:
+        raise Refused(19, 0)
+
+
+def recording_room(length, needed):
+    """`needed` is where the trailer would end. Whole numbers: no wrapping."""
+    if needed > length:
+        raise Refused(20, 0)

@@ -13,7 +13,7 @@ from . import brute, calls, recording, report
 from .facts import Tables, UNUSED, windows
 from .refusals import Refused
 
-GUARD16, GUARD32, GUARD_SAMPLE = 43690, 2863311530, -1431655766
+GUARD8, GUARD16, GUARD32, GUARD_SAMPLE = 170, 43690, 2863311530, -1431655766
 TABLE_ROOM = 1100            # entries of the tables a search case prepares
 LONG_CHECK = 20000           # pairs times windows beyond which ranks are used
 
@@ -201,14 +201,18 @@ class OfBytes:
         return cls(reader.bytes(), reader.one("I"))
 
 
+def reading(data, room):
+    """The lines of a reading."""
+    samples = [GUARD_SAMPLE] * room
+    first = head("read", lambda: recording.read(data, samples), lambda answer: "0 %d %d" % answer)
+    return first + show("samples", samples, GUARD_SAMPLE)
+
+
 class Read(OfBytes):
     KIND = 4
 
     def expected(self):
-        samples = [GUARD_SAMPLE] * self.room
-        first = head("read", lambda: recording.read(self.data, samples),
-                     lambda answer: "0 %d %d" % answer)
-        return first + show("samples", samples, GUARD_SAMPLE)
+        return reading(self.data, self.room)
 
 
 class Report(OfBytes):
@@ -221,7 +225,36 @@ class Report(OfBytes):
         return f"report {len(text)}\n" + (text if len(text) <= self.room else "kept\n")
 
 
-KINDS = {1: Prepare, 2: Search, 3: Agree, 4: Read, 5: Report}
+@dataclass
+class Write:
+    data: bytes                  # at the front of the lent buffer
+    spare: int                   # guard bytes behind them
+    used: int
+    samples: list
+
+    def encode(self):
+        return (put("BI", 6, len(self.data)) + self.data + put("IQ", self.spare, self.used)
+                + put_samples(self.samples))
+
+    @classmethod
+    def decode(cls, reader):
+        return cls(reader.bytes(), *reader.take("IQ"), reader.samples())
+
+    def expected(self):
+        """What is written and, if it is, the recordings that are then read from the end on."""
+        buffer = bytearray(self.data) + bytes([GUARD8]) * self.spare
+        answers = []
+        first = head("write", lambda: answers.append(recording.write(buffer, self.used, self.samples)),
+                     lambda _: f"0 {answers[0]}")
+        lines = [first, f"bytes {buffer.hex()}\n"]
+        for end in answers:          # grows by the place of each recording found
+            lines.append(reading(buffer[:end], end // 4))
+            if lines[-1].startswith("read 0 "):
+                answers.append(int(lines[-1].split()[4]))
+        return "".join(lines)
+
+
+KINDS = {1: Prepare, 2: Search, 3: Agree, 4: Read, 5: Report, 6: Write}
 END = b"\0"
 
 

@@ -9,7 +9,7 @@ from pathlib import Path
 from same_order import recording, stream
 
 HERE = Path(__file__).resolve().parent.parent
-EXAMPLE = recording.write([5, 8, 6, 6, 9, 7, 7, 2, 4, 3, 3], recording.write([4, 9, 6, 6]))
+EXAMPLE = recording.made([5, 8, 6, 6, 9, 7, 7, 2, 4, 3, 3], recording.made([4, 9, 6, 6]))
 
 
 def run(command, *arguments, given=b""):
@@ -38,7 +38,7 @@ class Commands(unittest.TestCase):
         for numbers in (b"", b"7", b" -2147483648\n+5\t007 2147483647 "):
             made = self.good("krec", given=numbers)
             samples = [int(word) for word in numbers.split()]
-            self.assertEqual(made, recording.write(samples))
+            self.assertEqual(made, recording.made(samples))
             self.assertEqual(self.good("krec", "--show", given=made).split(),
                              [b"%d" % sample for sample in samples])
         self.assertEqual(self.good("krec", "--show", given=EXAMPLE),

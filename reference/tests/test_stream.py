@@ -6,7 +6,7 @@ from collections import Counter
 from same_order import generate, stream
 from same_order.facts import NONE, UNUSED
 
-KIND_BYTES = {"prepare": 1, "search": 2, "agree": 3, "read": 4, "report": 5}
+KIND_BYTES = {"prepare": 1, "search": 2, "agree": 3, "read": 4, "report": 5, "write": 6}
 
 
 class Bytes(unittest.TestCase):
@@ -14,13 +14,14 @@ class Bytes(unittest.TestCase):
         cases = [stream.Prepare([1, -2], [1, 2, 3, 4]),
                  stream.Search([300], [1, 1, 1, 1], [7] * 6, 6, 9, [(4, 2, 513)]),
                  stream.Agree(2, [NONE], [], 1, 258),
-                 stream.Read(b"ab", 3), stream.Report(b"", 5)]
+                 stream.Read(b"ab", 3), stream.Report(b"", 5), stream.Write(b"xyz", 2, 513, [-1])]
         data = b"".join((
             b"\1" b"\2\0\0\0\1\1\xfe" b"\1\0\2\0\3\0\4\0",
             b"\2" b"\1\0\0\0\4\x2c\1\0\0" b"\1" b"\1\0\1\0\1\0\1\0" b"\1\4\2\0\1\2"
             b"\6\0\0\0\0\7\0\0\0" b"\6\0\0\0\x09\0\0\0",
             b"\3" b"\2\0\0\0" b"\1\0\xff\xff" b"\0\0" b"\1\0\0\0" b"\2\1\0\0",
-            b"\4" b"\2\0\0\0ab" b"\3\0\0\0", b"\5" b"\0\0\0\0" b"\5\0\0\0", b"\0"))
+            b"\4" b"\2\0\0\0ab" b"\3\0\0\0", b"\5" b"\0\0\0\0" b"\5\0\0\0",
+            b"\6" b"\3\0\0\0xyz" b"\2\0\0\0" b"\1\2\0\0\0\0\0\0" b"\1\0\0\0\1\xff", b"\0"))
         self.assertEqual(b"".join(case.encode() for case in cases) + stream.END, data)
         self.assertEqual(stream.decode(data), cases)
 
@@ -44,6 +45,10 @@ class Bytes(unittest.TestCase):
         if isinstance(case, (stream.Read, stream.Report)):
             self.assertLessEqual(len(case.data), 17000)
             self.assertLessEqual(case.room, 2100 if isinstance(case, stream.Read) else 40000)
+        if isinstance(case, stream.Write):
+            self.assertLessEqual(len(case.data) + case.spare, 262200)
+            self.assertLessEqual(len(case.samples), 65537)
+            self.assertLess(case.used, 1 << 64)
 
 
 class Lines(unittest.TestCase):
@@ -67,7 +72,14 @@ class Lines(unittest.TestCase):
                  "read 0 0 1 2\nsamples -1 g2\n"),
                 (stream.Read(b"x", 3), "read 8 1\nsamples g3\n"),
                 (stream.Report(b"x", 24), "report 24\ntrace refusal 8 place 1\n"),
-                (stream.Report(b"x", 23), "report 24\nkept\n")):
+                (stream.Report(b"x", 23), "report 24\nkept\n"),
+                (stream.Write(b"y", 17, 1, [-2]),
+                 "write 0 0 17\nbytes 79feffffff04000000010000004b524543aa\nread 0 0 1 1\nsamples -2 g3\n"
+                 "read 8 1\nsamples\n"),
+                (stream.Write(b"", 12, 0, []),
+                 "write 0 0 12\nbytes 00000000000000004b524543\nread 0 0 0 0\nsamples g3\nread 8 0\nsamples\n"),
+                (stream.Write(b"y", 3, 4, []), "write 20 0\nbytes 79aaaaaa\n"),
+                (stream.Write(b"y", 3, 5, []), "write 18 0\nbytes 79aaaaaa\n")):
             self.assertEqual(case.expected(), lines)
 
     def test_disagreement_with_brute_force_is_an_error(self):
@@ -83,7 +95,8 @@ class Spread(unittest.TestCase):
 
     def test_every_refusal_comes_up(self):
         for kind, numbers in (("prepare", (0, 1, 2, 3)), ("search", (*range(7), *range(14, 18))),
-                              ("agree", (0, 1, 2, 3)), ("read", (0, 8, 9, 10, 11, 12))):
+                              ("agree", (0, 1, 2, 3)), ("read", (0, 8, 9, 10, 11, 12)),
+                              ("write", (0, 18, 19, 20))):
             found = self.heads(kind, 600)
             self.assertEqual(set(found), {(kind, str(number)) for number in numbers})
             self.assertGreater(found[kind, "0"], 300)
@@ -96,6 +109,19 @@ class Spread(unittest.TestCase):
             for later in range(first + 1, 5):
                 self.assertIn((str(13 + first), "3", (first, 3), (later, 0)), met)
         self.assertIn(("17", "1", (4, 1), (4, 3)), met)
+
+    def test_writing_meets_its_edges(self):
+        cases = list(generate.cases("write", 1500, 11))
+        exact, short, behind = 0, 0, 0
+        for case in cases:
+            end = case.used + 4 * len(case.samples) + 12
+            room = len(case.data) + case.spare
+            exact += end == room
+            short += end == room + 1
+            behind += case.expected().count("read 0 ") > 1
+        self.assertGreater(min(exact, short, behind), 150)       # behind: a recording before it
+        counts = {len(case.samples) for case in cases}
+        self.assertLessEqual({0, 1, 65536, 65537}, counts)
 
     def test_every_word_comes_up(self):
         text = "".join(case.expected() for case in generate.cases("report", 600, 11))

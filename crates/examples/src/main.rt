@@ -6,6 +6,7 @@ use libc::STDOUT_FILENO;
 use order::Counts;
 use order::Refusal;
 use recording::Reading;
+use recording::Writing;
 use search::Searched;
 use words::wide16;
 use words::wide32;
@@ -14,6 +15,10 @@ use words::wide32;
 fn number(n: usize) {
     io::write_all(STDOUT_FILENO, b" ");
     io::print_decimal(STDOUT_FILENO, n as u64);
+}
+
+fn wide8(byte: u8) -> usize {
+    byte as usize
 }
 
 fn word(text: &[u8]) {
@@ -29,6 +34,16 @@ fn table(name: &[u8], entries: &[u16]) {
     let mut k: usize = 0;
     while k < entries.len() {
         number(wide16(entries[k]));
+        k += 1;
+    }
+    end_line();
+}
+
+fn bytes(name: &[u8], list: &[u8]) {
+    word(name);
+    let mut k: usize = 0;
+    while k < list.len() {
+        number(wide8(list[k]));
         k += 1;
     }
     end_line();
@@ -247,6 +262,34 @@ fn recordings() {
     recording_example(&[0u8, 0, 0, 0, 0, 0, 0, 64, 75, 82, 69, 67]);
 }
 
+// Example n: samples written into a buffer of which k bytes are in use. All its bytes are shown after it.
+fn write_example(buffer: &mut [u8], k: usize, samples: &[i32]) {
+    word(b"n");
+    match recording::write(buffer, k, samples) {
+        Writing::Done(end) => {
+            word(b" length");
+            number(end);
+            end_line();
+        }
+        Writing::Refused(why) => refusal(why),
+    }
+    bytes(b"  bytes", buffer);
+}
+
+// Some bytes of 170 for the buffer.
+fn written_into(length: usize, k: usize, samples: &[i32]) {
+    let mut buffer = [170u8; 18];
+    if length <= 18 {
+        write_example(&mut buffer[0..length], k, samples);
+    }
+}
+
+// Example n: one sample more than a recording may have.
+fn too_many(k: usize) {
+    let samples = [0i32; 65537];
+    written_into(4, k, &samples);
+}
+
 // Example m: entry 3 of a table altered.
 fn altered(number: usize) {
     run(b"m", &[4i32, 9, 6, 6], &[5i32, 8, 6, 6], number, false);
@@ -260,6 +303,20 @@ fn foreign() {
     altered(4);
 }
 
+// Example n: with bytes before and behind it, in just its room, and refused.
+fn writings() {
+    written_into(17, 1, &[-2i32]);
+    written_into(18, 1, &[-2i32]);
+    written_into(16, 1, &[-2i32]);
+    written_into(16, 0, &[-2147483648i32]);
+    written_into(12, 0, &[0i32; 0]);
+    written_into(11, 0, &[0i32; 0]);
+    written_into(4, 4, &[0i32; 0]);
+    too_many(0);
+    too_many(5);
+    written_into(17, 18446744073709551615, &[7i32]);
+}
+
 fn main() {
     tables();
     bends();
@@ -268,4 +325,5 @@ fn main() {
     limits();
     recordings();
     foreign();
+    writings();
 }

@@ -6,18 +6,25 @@ use mathlib.Core.Path.{_≡_, refl}
 use native.Mathlib.Omega.{arith}
 use Rattle.order.specs.declared.refusal.Table.{Table}
 use Rattle.order.specs.declared.refusal.Table.the-variants.{Low, High, WitnessI, WitnessJ}
+use Rattle.order.specs.declared.refusal.Fault.{Fault}
+use Rattle.order.specs.declared.refusal.Fault.the-variants.{LongLead, ManySamples, ShortBuffer}
 use Rattle.order.specs.declared.refusal.Refusal.{Refusal}
-use Rattle.order.specs.declared.refusal.Refusal.the-variants.{EmptyPattern, LongPattern, ShortTable, LongTrace, ShortSurvivors, ShortPositions, ShortRecording, WrongMark, WrongDistance, LongDistance, ShortSamples, LongInput, ForeignEntry}
-use Rattle.order.specs.Refusals.{Verdict, accepted, refused, foreignNumber, numberOf, placeOf}
+use Rattle.order.specs.declared.refusal.Refusal.the-variants.{EmptyPattern, LongPattern, ShortTable, LongTrace, ShortSurvivors, ShortPositions, ShortRecording, WrongMark, WrongDistance, LongDistance, ShortSamples, LongInput, ForeignEntry, Unplaced}
+use Rattle.order.specs.Refusals.{Verdict, accepted, refused, foreignNumber, faultNumber, numberOf, placeOf}
 use Rattle.host_answers.specs.Results.{refusalResult, resultOf}
 
-table-range : (t : Table) → (1 ≤ foreignNumber t) × (foreignNumber t ≤ 17)
+table-range : (t : Table) → (1 ≤ foreignNumber t) × (foreignNumber t ≤ 20)
 table-range Low = (omega arith, omega arith)
 table-range High = (omega arith, omega arith)
 table-range WitnessI = (omega arith, omega arith)
 table-range WitnessJ = (omega arith, omega arith)
 
-pub number-range : (r : Refusal) → (1 ≤ numberOf r) × (numberOf r ≤ 17)
+fault-range : (f : Fault) → (1 ≤ faultNumber f) × (faultNumber f ≤ 20)
+fault-range LongLead = (omega arith, omega arith)
+fault-range ManySamples = (omega arith, omega arith)
+fault-range ShortBuffer = (omega arith, omega arith)
+
+pub number-range : (r : Refusal) → (1 ≤ numberOf r) × (numberOf r ≤ 20)
 number-range EmptyPattern = (omega arith, omega arith)
 number-range (LongPattern m) = (omega arith, omega arith)
 number-range (ShortTable t) = (omega arith, omega arith)
@@ -31,6 +38,7 @@ number-range (LongDistance p) = (omega arith, omega arith)
 number-range (ShortSamples n) = (omega arith, omega arith)
 number-range LongInput = (omega arith, omega arith)
 number-range (ForeignEntry t k) = table-range t
+number-range (Unplaced f) = fault-range f
 
 pub result-made : (r : Refusal) {n p q : ℕ} → n ≡ numberOf r → p ≡ placeOf r → q ≡ min p 4294967295 → n * 4294967296 + q ≡ refusalResult r
 unfolding refusalResult

@@ -2,9 +2,9 @@
 -- (`passing`), in a list turned round too; and membership.
 -- Assumes nothing.
 use Prim.Native.Nat.{ℕ, zero, suc, _+_, _-_, _≤_, _<_}
-use mathlib.Core.Path.{_≡_, refl, sym, _∙_, ap, subst}
+use mathlib.Core.Path.{_≡_, refl, sym, _∙_, ap, ap₂, subst}
 use mathlib.Core.Logic.{⊎-elim}
-use mathlib.Core.List.{List, [], _∷_, _++_, reverse, append-assoc, append-nil, reverseAux-eq, List·Memᴰ, List·Memᴰ·head, List·Memᴰ·tail, List·Memᴰ·not-nil, List·Memᴰ·append-cases, List·Memᴰ·eq-of-singleton, Memᴰ·append-left, Memᴰ·append-right}
+use mathlib.Core.List.{List, [], _∷_, _++_, map, reverse, append-assoc, append-nil, reverseAux-eq, List·Memᴰ, List·Memᴰ·head, List·Memᴰ·tail, List·Memᴰ·not-nil, List·Memᴰ·append-cases, List·Memᴰ·eq-of-singleton, Memᴰ·append-left, Memᴰ·append-right}
 use mathlib.Core.Bool.{Bool, true, false, cond}
 use native.Mathlib.Omega.{arith}
 use native.Mathlib.Numerals.{add-one}
@@ -73,6 +73,20 @@ getD-each f (suc n) i d h = rw each-last (go (leb n i) refl (getD-each f n i d))
     go false e earlier =
         let k : i < n = leb-false n i e in
         List·getD-append (each f n) (f n ∷ []) d i (rw length-each k) ∙ earlier k
+
+pub each-same : {A : Type 0} (f g : ℕ → A) (n : ℕ) → ((k : ℕ) → k < n → f k ≡ g k) → each f n ≡ each g n
+unfolding each
+each-same f g zero h = refl
+each-same f g (suc n) h = ap₂ (λ l x. l ++ (x ∷ [])) (each-same f g n (λ k l. h k (omega arith))) (h n (omega arith))
+
+map-last : {A B : Type 0} (g : A → B) (l : List A) (x : A) → map g (l ++ (x ∷ [])) ≡ map g l ++ (g x ∷ [])
+map-last g [] x = refl
+map-last g (y ∷ l) x = ap (λ t. g y ∷ t) (map-last g l x)
+
+pub map-each : {A B : Type 0} (g : A → B) (f : ℕ → A) (n : ℕ) → map g (each f n) ≡ each (λ k. g (f k)) n
+unfolding each
+map-each g f zero = refl
+map-each g f (suc n) = map-last g (each f n) (f n) ∙ ap (λ l. l ++ (g (f n) ∷ [])) (map-each g f n)
 
 -- what `lowest` finds, as a statement: none passes, or j does and none before it
 pub record Lowest (p : ℕ → Bool) (n j : ℕ) : Type 0 where

@@ -1,5 +1,5 @@
 -- "Refusals": the table of numbers and places, and for each call the first of its conditions that holds.
-use Prim.Native.Nat.{ℕ, _*_, _-_}
+use Prim.Native.Nat.{ℕ, _+_, _*_, _-_}
 use mathlib.Core.List.{List}
 use mathlib.Core.Bool.{Bool, true, false, not}
 use lib.Dec.{ltb, eqb}
@@ -7,12 +7,14 @@ use lib.IntN.{ℤ}
 use lib.ListN.{length, getD}
 use Rattle.order.specs.declared.refusal.Table.{Table}
 use Rattle.order.specs.declared.refusal.Table.the-variants.{Low, High, WitnessI, WitnessJ}
+use Rattle.order.specs.declared.refusal.Fault.{Fault}
+use Rattle.order.specs.declared.refusal.Fault.the-variants.{LongLead, ManySamples, ShortBuffer}
 use Rattle.order.specs.declared.refusal.Refusal.{Refusal}
-use Rattle.order.specs.declared.refusal.Refusal.the-variants.{EmptyPattern, LongPattern, ShortTable, LongTrace, ShortSurvivors, ShortPositions, ShortRecording, WrongMark, WrongDistance, LongDistance, ShortSamples, LongInput, ForeignEntry}
-use Rattle.order.specs.Sizes.{Spot, none, place, entry, lowest, patternLimit, traceLimit, inputLimit, windowsOf}
+use Rattle.order.specs.declared.refusal.Refusal.the-variants.{EmptyPattern, LongPattern, ShortTable, LongTrace, ShortSurvivors, ShortPositions, ShortRecording, WrongMark, WrongDistance, LongDistance, ShortSamples, LongInput, ForeignEntry, Unplaced}
+use Rattle.order.specs.Sizes.{Spot, none, place, entry, lowest, patternLimit, traceLimit, recordingLimit, inputLimit, windowsOf}
 use Rattle.order.specs.Neighbours.{lowOf, highOf}
 use Rattle.order.specs.Witnesses.{witnessI, witnessJ}
-use Rattle.order.specs.Recordings.{trailerSize, distanceBack, sampleCount, marked}
+use Rattle.order.specs.Recordings.{trailerSize, recordingSize, distanceBack, sampleCount, marked}
 
 abbrev pub tableNumber : Table → ℕ
 tableNumber Low = 1
@@ -26,6 +28,12 @@ foreignNumber Low = 14
 foreignNumber High = 15
 foreignNumber WitnessI = 16
 foreignNumber WitnessJ = 17
+
+-- the number of a refusal that has no place of its own
+abbrev pub faultNumber : Fault → ℕ
+faultNumber LongLead = 18
+faultNumber ManySamples = 19
+faultNumber ShortBuffer = 20
 
 abbrev pub numberOf : Refusal → ℕ
 numberOf EmptyPattern = 1
@@ -41,6 +49,7 @@ numberOf (LongDistance p) = 11
 numberOf (ShortSamples n) = 12
 numberOf LongInput = 13
 numberOf (ForeignEntry t k) = foreignNumber t
+numberOf (Unplaced f) = faultNumber f
 
 abbrev pub placeOf : Refusal → ℕ
 placeOf EmptyPattern = 0
@@ -56,6 +65,7 @@ placeOf (LongDistance p) = p
 placeOf (ShortSamples n) = n
 placeOf LongInput = inputLimit
 placeOf (ForeignEntry t k) = k
+placeOf (Unplaced f) = 0
 
 -- what the conditions of a call come to
 pub data Verdict : Type 0 where
@@ -142,3 +152,9 @@ pointsVerdict start distance count room =
 -- reading: 8 to 12
 unfoldable pub readVerdict : List ℕ → ℕ → Verdict
 readVerdict bs room = trailerVerdict bs (pointsVerdict (length bs - trailerSize) (distanceBack bs) (sampleCount bs) room)
+
+-- writing: 18 to 20, on a buffer's length, how many of its bytes are in use, and the number of samples
+unfoldable pub writeVerdict : ℕ → ℕ → ℕ → Verdict
+writeVerdict room k count =
+    refuse (ltb room k) (Unplaced LongLead)
+    (refuse (ltb recordingLimit count) (Unplaced ManySamples) (refuse (ltb room (k + recordingSize count)) (Unplaced ShortBuffer) accepted))

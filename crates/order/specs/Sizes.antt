@@ -14,6 +14,10 @@ patternLimit = 1024
 abbrev pub traceLimit : ℕ
 traceLimit = 65536
 
+-- the longest recording that is written, in samples
+abbrev pub recordingLimit : ℕ
+recordingLimit = 65536
+
 -- the longest input of the program, in bytes
 abbrev pub inputLimit : ℕ
 inputLimit = 16384

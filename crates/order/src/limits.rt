@@ -6,6 +6,9 @@ pub const PATTERN_LIMIT: usize = 1024;
 // The longest trace, in samples.
 pub const TRACE_LIMIT: usize = 65536;
 
+// The longest recording that is written, in samples.
+pub const RECORDING_LIMIT: usize = 65536;
+
 // The longest input of the program, in bytes.
 pub const INPUT_LIMIT: usize = 16384;
 

@@ -3,7 +3,7 @@
 
 use crate::limits::INPUT_LIMIT;
 ghost use mathlib.Core.Path.{_≡_};
-ghost use Rattle.order.specs.Refusals.{tableNumber, foreignNumber, numberOf, placeOf};
+ghost use Rattle.order.specs.Refusals.{tableNumber, foreignNumber, faultNumber, numberOf, placeOf};
 
 // The four tables that preparation writes.
 pub enum Table {
@@ -39,6 +39,26 @@ impl Table {
     }
 }
 
+// What is wrong with a call where the number says it all: such a refusal's place is 0.
+pub enum Fault {
+    LongLead,
+    ManySamples,
+    ShortBuffer,
+}
+
+impl Fault {
+    // The number of the refusal for it.
+    fn number(self) -> usize
+        ensures { λ r. ⌜ r ≡ faultNumber self ⌝ }
+    {
+        match self {
+            Fault::LongLead => 18,
+            Fault::ManySamples => 19,
+            Fault::ShortBuffer => 20,
+        }
+    }
+}
+
 // Why a call was refused, with the number that its place tells.
 pub enum Refusal {
     EmptyPattern,
@@ -55,6 +75,7 @@ pub enum Refusal {
     LongInput,
     // a table, and the lowest of its entries that is not the pattern's own
     ForeignEntry(Table, usize),
+    Unplaced(Fault),
 }
 
 impl Refusal {
@@ -76,6 +97,7 @@ impl Refusal {
             Refusal::ShortSamples(_) => 12,
             Refusal::LongInput => 13,
             Refusal::ForeignEntry(t, _) => t.foreign_number(),
+            Refusal::Unplaced(f) => f.number(),
         }
     }
 
@@ -97,6 +119,7 @@ impl Refusal {
             Refusal::ShortSamples(count) => count,
             Refusal::LongInput => INPUT_LIMIT,
             Refusal::ForeignEntry(_, at) => at,
+            Refusal::Unplaced(_) => 0,
         }
     }
 }

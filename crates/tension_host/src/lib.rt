@@ -1,8 +1,10 @@
-// The entry points for a C host: preparation and search on little-endian bytes, exported under C's names.
+// The entry points for a C host: preparation and search on little-endian bytes, reading and writing of recordings, exported under C's
+// names.
 //
-// Follows docs/RULES.md, "The C entry points". Each is one call of the crate `host_calls`, which says what it costs.
+// Follows docs/RULES.md, "The C entry points". Each is one call of the crate `host_calls` or `host_recordings`, which says what it costs.
 
 ghost use Rattle.host_calls.specs.HostPromises.{HostPrepare, HostSearch};
+ghost use Rattle.host_recordings.specs.Promises.{HostRead, HostWrite};
 
 // Prepares a pattern of 4-byte samples: its tables of 2-byte entries are written, or nothing is.
 #[no_mangle]
@@ -73,4 +75,30 @@ pub extern "C" fn tension_search_large(
         positions,
         counts,
     )
+}
+
+// Reads the recording that ends with these bytes: its samples, their number and the byte of the first are stored, or nothing is.
+#[no_mangle]
+pub extern "C" fn tension_read(
+    bytes: &[u8],
+    samples: &mut [i32],
+    count: &mut usize,
+    first: &mut usize,
+) -> u64
+    ensures { λ r. ⌜ HostRead (now (bytes .entry)) (now (samples .entry)) (now (count .entry)) (now (first .entry)) r (now (samples .exit)) (now (count .exit)) (now (first .exit)) ⌝ }
+{
+    host_recordings::read(bytes, samples, count, first)
+}
+
+// Writes samples behind the first k bytes of a buffer: samples, trailer and the new length are stored, or nothing is.
+#[no_mangle]
+pub extern "C" fn tension_write(
+    buffer: &mut [u8],
+    k: usize,
+    samples: &[i32],
+    length: &mut usize,
+) -> u64
+    ensures { λ r. ⌜ HostWrite (now (buffer .entry)) k (now (samples .entry)) (now (length .entry)) r (now (buffer .exit)) (now (length .exit)) ⌝ }
+{
+    host_recordings::write(buffer, k, samples, length)
 }

@@ -2,4 +2,5 @@
 pub mod Signs
 pub mod Digits
 pub mod ReadBack
+pub mod SampleBytes
 pub mod Handing

@@ -9,10 +9,12 @@ mod numbers;
 mod widths;
 
 pub use lists::put_entries;
+pub use lists::put_samples;
 pub use lists::put_words;
 pub use lists::take_entries;
 pub use lists::take_samples;
 pub use numbers::from_bits;
+pub use numbers::to_bits;
 pub use numbers::word_at;
 pub use numbers::word_of;
 pub use widths::larger;

@@ -1,0 +1,2 @@
+-- What reading and writing promise to a C host.
+pub mod Promises
