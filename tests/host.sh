@@ -40,7 +40,7 @@ if "${run[@]}" "$work/example" "$work/pattern" "$work/five" >"$work/said" 2>&1; 
   echo "host: the example searches what is no recording" >&2
   exit 1
 fi
-grep -qx "$work/five: refusal 8 place 5" "$work/said"
+printf '%s: refusal 8 place 5\n' "$work/five" | cmp - "$work/said"
 echo "host: the example prints what it should"
 
 # a file of two recordings, as docs/HOST.md has a host write it
