@@ -51,12 +51,12 @@ static const struct group {
     [BRIEF_FOREIGN] = {"tension_search, trace up to 256, foreign entry", SMALL_LIMIT, 0, BRIEF_WRITTEN},
     [SMALL] = {"tension_search, trace 257 to 2048", SMALL_LIMIT, BRIEF_WRITTEN, 0},
     [SMALL_FOREIGN] = {"tension_search, trace 257 to 2048, foreign entry", SMALL_LIMIT, BRIEF_WRITTEN, 0},
-    [SMALL_REFUSED] = {"tension_search, trace up to 2048, length refused", SMALL_LIMIT, 0, 0},
+    [SMALL_REFUSED] = {"tension_search, trace up to 2048, refused before the tables' check", SMALL_LIMIT, 0, 0},
     [LONG] = {"tension_search, longer trace", LARGE_LIMIT, SMALL_LIMIT, 0},
     [LONG_FOREIGN] = {"tension_search, longer trace, foreign entry", LARGE_LIMIT, SMALL_LIMIT, 0},
-    [LONG_REFUSED] = {"tension_search, longer trace, length refused", LARGE_LIMIT, 0, 0},
+    [LONG_REFUSED] = {"tension_search, longer trace, refused before the tables' check", LARGE_LIMIT, 0, 0},
     [LARGE] = {"tension_search_large", LARGE_LIMIT, SMALL_LIMIT, 0},
-    [LARGE_REFUSED] = {"tension_search_large, length refused", LARGE_LIMIT, 0, 0},
+    [LARGE_REFUSED] = {"tension_search_large, refused before the tables' check", LARGE_LIMIT, 0, 0},
     [READ] = {"tension_read", RECORDING_LIMIT, 0, 0},
     [READ_REFUSED] = {"tension_read, refused", RECORDING_LIMIT, 0, 0},
     [WRITTEN] = {"tension_write", RECORDING_LIMIT, 0, 0},
@@ -214,10 +214,13 @@ static int32_t sample(int kind, size_t k)
     }
 }
 
-/* Kinds of traces: the pattern's kind throughout, the pattern time after time, the pattern's kind with some samples moved, noise. */
-enum { THROUGHOUT, REPEATED, BROKEN, NOISE, TRACES };
+/*
+ * Kinds of traces: the pattern's kind throughout, the pattern time after time, the pattern's kind with some samples moved, with some
+ * lost, noise. Lost stitches are so close that they strike some windows of a pattern of 100 and all of one of 1,024.
+ */
+enum { THROUGHOUT, REPEATED, BROKEN, LOSING, NOISE, TRACES };
 
-static const char *const traces[TRACES] = {"on and on", "repeated", "broken", "noise"};
+static const char *const traces[TRACES] = {"on and on", "repeated", "broken", "lost stitches", "noise"};
 
 static int32_t trace_sample(int trace, int kind, size_t m, size_t k)
 {
@@ -225,6 +228,7 @@ static int32_t trace_sample(int trace, int kind, size_t m, size_t k)
     case THROUGHOUT: return sample(kind, k);
     case REPEATED: return sample(kind, k % m);
     case BROKEN: return k % 149 == 148 ? scrambled(k) : sample(kind, k);
+    case LOSING: return k % 149 == 148 ? TENSION_LOST : sample(kind, k);
     default: return scrambled(k + TENSION_TRACE_LIMIT);
     }
 }
@@ -318,6 +322,17 @@ static void refuse(void (*what)(void), size_t m, size_t n, int buffer, size_t le
             number);
 }
 
+/* A call that fits but for one sample of the pattern, which is a lost stitch. */
+static void refuse_lost(void (*what)(void), size_t m, size_t n, size_t at)
+{
+    uint8_t own[4];
+
+    memcpy(own, buffers[PATTERN] + 4 * at, sizeof own);
+    put_sample(PATTERN, at, TENSION_LOST);
+    refuse(what, m, n, PATTERN, 4 * m, TENSION_LOST_STITCH, at);
+    memcpy(buffers[PATTERN] + 4 * at, own, sizeof own);
+}
+
 static void refusals(void (*what)(void), size_t m, size_t n)
 {
     size_t windows = n < m ? 0 : n - m + 1;
@@ -325,6 +340,8 @@ static void refusals(void (*what)(void), size_t m, size_t n)
 
     refuse(what, m, n, PATTERN, 3, TENSION_EMPTY_PATTERN, 0);
     refuse(what, m, n, PATTERN, 4 * (TENSION_PATTERN_LIMIT + 1), TENSION_LONG_PATTERN, TENSION_PATTERN_LIMIT + 1);
+    refuse_lost(what, m, n, 0);
+    refuse_lost(what, m, n, m - 1);
     for (table = LOW; table <= WITNESS_J; table++)
         refuse(what, m, n, table, 2 * m - 1, TENSION_SHORT_TABLE, (size_t)(table - LOW + 1));
     if (what == prepare)

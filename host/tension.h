@@ -5,6 +5,9 @@
  * the same order as the pattern's (equal samples count as equal); tension_read takes a recording apart, tension_write makes one. All
  * are proved to meet docs/RULES.md; docs/HOST.md tells how to link and what is asked of the caller.
  *
+ * The sample TENSION_LOST is a lost stitch: the sensor board sends it while the arm is lifted, so it tells no tension. A search leaves
+ * out every window that holds one, and a pattern with one is refused. Recordings hold it like any other sample.
+ *
  * A buffer named in bytes is a pointer and then a length in BYTES. For tension_prepare and tension_search it holds as many entries as fit
  * into that length without being cut; what is too short for one more stays untouched and unread. All numbers in it are little-endian:
  * samples are signed 32 bit in two's complement, table entries are unsigned 16 bit, survivors, positions and counts are unsigned 32 bit.
@@ -27,7 +30,7 @@ extern "C" {
 
 /* The version of calls and answers; CHANGELOG.md says what moved with each. */
 #define TENSION_VERSION_MAJOR 1
-#define TENSION_VERSION_MINOR 2
+#define TENSION_VERSION_MINOR 3
 
 /* Limits, in samples. */
 #define TENSION_PATTERN_LIMIT 1024
@@ -36,6 +39,9 @@ extern "C" {
 
 /* Bytes of a recording of so many samples: four each, and the trailer. For a number of samples up to TENSION_RECORDING_LIMIT. */
 #define TENSION_RECORDING_BYTES(samples) (4 * (size_t)(samples) + 12)
+
+/* A sample that is a lost stitch: -2147483648, put so that no part of it is too large for a signed number of 32 bits. */
+#define TENSION_LOST (-2147483647 - 1)
 
 /* A table entry that names no place, and an entry of survivors or positions that holds no window. */
 #define TENSION_NONE 65535u
@@ -47,9 +53,10 @@ extern "C" {
 #define TENSION_COUNT_SURVIVORS 2 /* S: windows that survived them */
 #define TENSION_COUNT_SWEEP 3     /* W: comparisons of the sweep, as the rules count them */
 #define TENSION_COUNT_FOUND 4     /* R: positions listed */
-#define TENSION_COUNTS 5
+#define TENSION_COUNT_STRUCK 5    /* windows struck before the duels, since they hold a lost stitch */
+#define TENSION_COUNTS 6
 
-/* Refusal numbers. The place that goes with each: */
+/* Refusal numbers. 21 is tried after 2 and before 3. The place that goes with each: */
 #define TENSION_ACCEPTED 0
 #define TENSION_EMPTY_PATTERN 1      /* 0 */
 #define TENSION_LONG_PATTERN 2       /* the pattern's length */
@@ -69,14 +76,16 @@ extern "C" {
 #define TENSION_LONG_LEAD 18         /* 0 */
 #define TENSION_MANY_SAMPLES 19      /* 0 */
 #define TENSION_SHORT_BUFFER 20      /* 0 */
+#define TENSION_LOST_STITCH 21       /* the first place of the pattern that holds a lost stitch */
 
 /* What a call answers, taken apart. A place above 4294967295 is given as 4294967295. */
 #define TENSION_NUMBER(answer) ((uint32_t)((answer) >> 32))
 #define TENSION_PLACE(answer) ((uint32_t)((answer) & 0xFFFFFFFFu))
 
 /*
- * Prepares a pattern of m samples (1 to 1,024): writes entries 0 to m - 1 of each of the four tables, and keeps the rest of them.
- * Each table needs room for m entries. Answers 0, or a refusal (1 to 3), and then no byte of a table has changed.
+ * Prepares a pattern of m samples (1 to 1,024), none of them a lost stitch: writes entries 0 to m - 1 of each of the four tables, and
+ * keeps the rest of them. Each table needs room for m entries. Answers 0, or a refusal (1, 2, 21, 3), and then no byte of a table has
+ * changed.
  */
 uint64_t tension_prepare(const uint8_t *pattern, size_t pattern_bytes,
                          uint8_t *low, size_t low_bytes,
@@ -87,8 +96,9 @@ uint64_t tension_prepare(const uint8_t *pattern, size_t pattern_bytes,
 /*
  * Searches a trace of n samples (0 to 65,536) for the pattern, with the tables that tension_prepare made of it. With N = n - m + 1
  * windows (0 where n < m), survivors and positions need room for N entries each; entries 0 to N - 1 are written: the list, then
- * TENSION_UNUSED. positions lists all windows in the pattern's order, ascending. counts takes as many of the five counts as it
- * has whole entries for. Answers 0, or a refusal (1 to 6, 14 to 17), and then no byte of a buffer has changed.
+ * TENSION_UNUSED. positions lists all windows in the pattern's order that hold no lost stitch, ascending; N and the room that is needed
+ * go by all windows. counts takes as many of the six counts as it has whole entries for. Answers 0, or a refusal (1, 2, 21, 3 to 6, 14
+ * to 17), and then no byte of a buffer has changed.
  */
 uint64_t tension_search(const uint8_t *pattern, size_t pattern_bytes,
                         const uint8_t *low, size_t low_bytes,

@@ -10,10 +10,18 @@ trap 'rm -rf "$work"' EXIT
 . tests/x86.inc
 . tests/archive.inc
 
-printf '#include "tension.h"\nint used(void) { return TENSION_COUNTS; }\n' >"$work/header.c"
-"${cc[@]}" -std=c89 -pedantic -Wall -Werror -Ihost -fsyntax-only "$work/header.c"
-"${cc[@]}" -std=c11 -pedantic -Wall -Werror -Ihost -fsyntax-only "$work/header.c"
-"${cxx[@]}" -x c++ -std=c++11 -pedantic -Wall -Werror -Ihost -fsyntax-only "$work/header.c"
+# the value of a lost stitch is one that a preprocessor and a compiler take for the lowest sample
+cat >"$work/header.c" <<'END'
+#include "tension.h"
+#if TENSION_LOST + 2147483647 != -1
+#error "a lost stitch is not the lowest sample"
+#endif
+static const int32_t lost = TENSION_LOST;
+int used(void) { return lost < -2147483647 ? TENSION_COUNTS : TENSION_LOST_STITCH; }
+END
+"${cc[@]}" -std=c89 -pedantic -Wall -Wextra -Wconversion -Werror -Ihost -fsyntax-only "$work/header.c"
+"${cc[@]}" -std=c11 -pedantic -Wall -Wextra -Wconversion -Werror -Ihost -fsyntax-only "$work/header.c"
+"${cxx[@]}" -x c++ -std=c++11 -pedantic -Wall -Wextra -Wconversion -Werror -Ihost -fsyntax-only "$work/header.c"
 echo "host: the header compiles as C89 with stdint.h, C11 and C++"
 
 # one version in the header, the pkg-config file and the newest entry of the changelog
@@ -35,12 +43,22 @@ echo 4 9 6 6 | reference/krec >"$work/pattern"
 echo 5 8 6 6 9 7 7 2 4 3 3 | reference/krec >"$work/trace"
 "${run[@]}" "$work/example" "$work/pattern" "$work/trace" >"$work/said"
 printf 'windows 8 duels 5 survivors 3 sweep 12 found 3\n0\n3\n7\n' | cmp - "$work/said"
+# windows that hold a lost stitch, -2147483648, are not listed
+echo 1 2 | reference/krec >"$work/rise"
+echo 1 2 -2147483648 1 2 | reference/krec >"$work/lost"
+"${run[@]}" "$work/example" "$work/rise" "$work/lost" >"$work/said"
+printf 'windows 4 duels 0 survivors 2 sweep 2 found 2\n0\n3\n' | cmp - "$work/said"
+
+refused() { # PATTERN TRACE LINE: the example tells why it does not search
+  if "${run[@]}" "$work/example" "$1" "$2" >"$work/said" 2>&1; then
+    echo "host: the example searches what it should refuse: $3" >&2
+    exit 1
+  fi
+  echo "$3" | cmp - "$work/said"
+}
 printf 12345 >"$work/five"
-if "${run[@]}" "$work/example" "$work/pattern" "$work/five" >"$work/said" 2>&1; then
-  echo "host: the example searches what is no recording" >&2
-  exit 1
-fi
-printf '%s: refusal 8 place 5\n' "$work/five" | cmp - "$work/said"
+refused "$work/pattern" "$work/five" "$work/five: refusal 8 place 5"
+refused "$work/lost" "$work/trace" "prepare: refusal 21 place 2"
 echo "host: the example prints what it should"
 
 # a file of two recordings, as docs/HOST.md has a host write it

@@ -10,7 +10,7 @@ trap 'rm -rf "$work"' EXIT
 mkdir -p "$work/crates/probe/src" "$work/target/rlib" "$work/target/stamp"
 
 # The crates come with what target/ has of them: rt compares the stamps, and proves again only what is new since then.
-for crate in order sizes agreement; do
+for crate in order stitches sizes agreement; do
   grep "^$crate:" crates.txt >>"$work/crates.txt"
   cp -R "crates/$crate" "$work/crates/"
   if [ -e "target/stamp/$crate" ]; then

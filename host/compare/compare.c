@@ -18,6 +18,9 @@
 
 enum { SAMPLES = 9, COLUMNS = 3 };
 
+_Static_assert(LOST == TENSION_LOST, "one value is a lost stitch to all");
+_Static_assert(sizeof(struct counts) == 4 * TENSION_COUNTS, "every count is compared");
+
 static const char *columns[COLUMNS] = {"same C", "KMP", "naive"};
 
 static struct tables tables, other_tables;
@@ -28,7 +31,11 @@ static struct counts same_counts;
 static size_t found_kmp, found_naive;
 
 static void call_prepare(void) { prepare_by(tension_prepare, &tables); }
-static void call_same_prepare(void) { same_prepare(pattern, m, &other_tables); }
+static void call_same_prepare(void)
+{
+    if (!same_prepare(pattern, m, &other_tables))
+        exit(1);
+}
 static void call_ours(void) { search_by(tension_search, &tables, n, survivors, positions, counts); }
 static void call_check(void) { search_by(tension_search, &tables, 0, survivors, positions, counts); }
 static void call_same(void)
@@ -113,7 +120,7 @@ static void measure(const char *kind, size_t length, size_t samples)
     r->n = n;
     r->ours = timed(call_ours);
     r->check = timed(call_check) / r->ours;
-    printf("%-9s %5zu %6zu %11.2f", kind, m, n, 1e6 * r->ours);
+    printf("%-18s %5zu %6zu %11.2f", kind, m, n, 1e6 * r->ours);
     for (int c = 0; c < COLUMNS; c++) {
         r->ratios[c] = r->ours / timed(theirs[c]);
         printf(" %10.3f", r->ratios[c]);
@@ -140,8 +147,8 @@ static double geometric_mean(int c)
 
 static void sum_up(void)
 {
-    printf("%-34s %10.3f %10.3f %10.3f\n", "worst", worst(0), worst(1), worst(2));
-    printf("%-34s %10.3f %10.3f %10.3f\n", "geometric mean", geometric_mean(0), geometric_mean(1), geometric_mean(2));
+    printf("%-43s %10.3f %10.3f %10.3f\n", "worst", worst(0), worst(1), worst(2));
+    printf("%-43s %10.3f %10.3f %10.3f\n", "geometric mean", geometric_mean(0), geometric_mean(1), geometric_mean(2));
     printf("%d rows, best of %d samples each\n", number, SAMPLES);
 }
 
@@ -157,9 +164,10 @@ static void preparation(void)
 
 /*
  * The picture is the table with a dot for each ratio, on a scale of powers of two that reaches from the least ratio to the largest.
- * Distances are in pixels: LINE from row to row, columns of figures at FIGURES and every COLUMN after, the scale from LEFT on.
+ * Distances are in pixels: LINE from row to row, m and n up to M_END and N_END, columns of figures up to FIGURES and every COLUMN after,
+ * the scale from LEFT on.
  */
-enum { LINE = 14, TOP = 70, FIGURES = 220, COLUMN = 70, LEFT = 400, WIDE = 560 };
+enum { LINE = 14, TOP = 70, M_END = 150, N_END = 195, FIGURES = 260, COLUMN = 70, LEFT = 440, WIDE = 560 };
 
 static const char *colours[COLUMNS] = {"#1b6ca8", "#c0562a", "#5a8f3d"};
 static int least, largest; /* powers of two, both multiples of 4 */
@@ -215,8 +223,8 @@ static void draw_head(FILE *f, int height)
     fprintf(f, "<text x=\"10\" y=\"20\" font-size=\"13\">Time of tension_search by the time of three matchers in C; left of 1 "
                "we are ahead</text>\n<text x=\"10\" y=\"36\">%s</text>\n", note);
     fprintf(f, "<text x=\"10\" y=\"%d\">trace</text>\n", TOP - LINE - 4);
-    draw_text(f, 110, TOP - LINE - 4, "black", "m");
-    draw_text(f, 155, TOP - LINE - 4, "black", "n");
+    draw_text(f, M_END, TOP - LINE - 4, "black", "m");
+    draw_text(f, N_END, TOP - LINE - 4, "black", "n");
     for (int c = 0; c < COLUMNS; c++)
         draw_text(f, FIGURES + COLUMN * c, TOP - LINE - 4, colours[c], columns[c]);
 }
@@ -236,9 +244,9 @@ static void draw_row(FILE *f, const struct row *r, int y)
     char text[32];
     fprintf(f, "<text x=\"10\" y=\"%d\">%s</text>\n", y + 4, r->kind);
     snprintf(text, sizeof text, "%zu", r->m);
-    draw_text(f, 110, y + 4, "black", text);
+    draw_text(f, M_END, y + 4, "black", text);
     snprintf(text, sizeof text, "%zu", r->n);
-    draw_text(f, 155, y + 4, "black", text);
+    draw_text(f, N_END, y + 4, "black", text);
     for (int c = 0; c < COLUMNS; c++)
         draw_ratio(f, c, y, r->ratios[c]);
 }
@@ -287,7 +295,7 @@ int main(int argc, char **argv)
     }
     if (*note)
         printf("%s\n", note);
-    printf("%-9s %5s %6s %11s %10s %10s %10s  check\n", "trace", "m", "n", "ours (us)", columns[0], columns[1], columns[2]);
+    printf("%-18s %5s %6s %11s %10s %10s %10s  check\n", "trace", "m", "n", "ours (us)", columns[0], columns[1], columns[2]);
     for (int k = 0; k < KINDS; k++)
         for (int mi = 0; mi < MS; mi++)
             for (int ni = 0; ni < NS; ni++)

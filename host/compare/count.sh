@@ -1,5 +1,5 @@
 #!/usr/bin/env bash
-# `make count`: the instructions of one call of tension_search and of one of the same algorithm in C, and their ratio, on three rows of
+# `make count`: the instructions of one call of tension_search and of one of the same algorithm in C, and their ratio, on four rows of
 # the comparison; no time comes into it. valgrind counts them for the machine at hand. Where that is not x86-64 a plugin of the emulator
 # counts those of the archive itself too. It counts an x86-64 instruction that repeats itself once for each time, which would make the
 # clearing of a buffer weigh as much as a search, so the C library is told not to fill and copy by such instructions.
@@ -31,12 +31,12 @@ a_call() {
 count_rows() {
   local kind m n ours same
   counter=("$@")
-  printf '%-9s %5s %6s %14s %14s %8s\n' trace m n 'ours (instr.)' 'same C' ratio
-  for row in "random 4 65536" "walk 128 2048" "random 1024 2048"; do
-    read -r kind m n <<<"$row"
+  printf '%-18s %5s %6s %14s %14s %8s\n' trace m n 'ours (instr.)' 'same C' ratio
+  for row in "4 65536 random" "128 2048 walk" "1024 2048 random" "4 65536 random, 1 % lost"; do
+    read -r m n kind <<<"$row"
     ours=$(a_call ours "$kind" "$m" "$n")
     same=$(a_call same "$kind" "$m" "$n")
-    printf '%-9s %5s %6s %14s %14s %8s\n' "$kind" "$m" "$n" "$ours" "$same" "$(python3 -c "print(f'{$ours / $same:.3f}')")"
+    printf '%-18s %5s %6s %14s %14s %8s\n' "$kind" "$m" "$n" "$ours" "$same" "$(python3 -c "print(f'{$ours / $same:.3f}')")"
   done
 }
 

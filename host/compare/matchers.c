@@ -8,6 +8,48 @@ static int relation(int32_t a, int32_t b)
     return (a > b) - (a < b);
 }
 
+/* Where the first lost stitch stands from a sample on, or the end. The loop over a block has no branch, so that the compiler compares
+ * several samples at once. */
+static size_t first_lost(const int32_t *v, size_t from, size_t end)
+{
+    enum { BLOCK = 64 };
+    for (; from + BLOCK <= end; from += BLOCK) {
+        int lost = 0;
+        for (size_t k = 0; k < BLOCK; k++)
+            lost |= v[from + k] == LOST;
+        if (lost)
+            break;
+    }
+    while (from < end && v[from] != LOST)
+        from++;
+    return from;
+}
+
+/*
+ * A stretch of the trace, from a sample up to an end: it holds no lost stitch and has room for a window. The next is looked for from
+ * `next` on.
+ *
+ * What goes over the samples of a stretch is a function by itself and stays one: inside the loop over stretches the compiler makes worse
+ * code of it, which a trace with no lost stitch would pay for.
+ */
+struct stretch {
+    size_t from, end, next;
+};
+
+#define BY_ITSELF __attribute__((noinline)) static
+
+static int next_stretch(const int32_t *trace, size_t n, size_t m, struct stretch *s)
+{
+    while (s->next + m <= n) {
+        s->from = s->next;
+        s->end = first_lost(trace, s->from, n);
+        s->next = s->end + 1;
+        if (s->from + m <= s->end)
+            return 1;
+    }
+    return 0;
+}
+
 static void neighbours(const int32_t *p, size_t m, uint16_t *low, uint16_t *high)
 {
     for (size_t j = 0; j < m; j++) {
@@ -72,18 +114,23 @@ static void witnesses(const int32_t *p, size_t m, struct tables *t)
     }
 }
 
-void same_prepare(const int32_t *p, size_t m, struct tables *t)
+int same_prepare(const int32_t *p, size_t m, struct tables *t)
 {
+    if (first_lost(p, 0, m) < m)
+        return 0;
     neighbours(p, m, t->low, t->high);
     witnesses(p, m, t);
+    return 1;
 }
 
-static size_t duels(const int32_t *p, size_t m, const struct tables *t, const int32_t *trace, size_t windows, uint32_t *stack,
-                    uint32_t *fought)
+/* The windows of a stretch arrive, and those kept join the stack. None of them duels with a window of an earlier stretch, since it lies
+ * more than m away. */
+BY_ITSELF size_t duels(const int32_t *p, size_t m, const struct tables *t, const int32_t *trace, size_t from, size_t end,
+                       uint32_t *stack, size_t kept, uint32_t *fought)
 {
-    size_t kept = 0;
+    size_t stop = end - m + 1;
     uint32_t d = 0;
-    for (size_t y = 0; y < windows; y++) {
+    for (size_t y = from; y < stop; y++) {
         int push = 1;
         while (kept) {
             size_t a = y - stack[kept - 1];
@@ -106,7 +153,7 @@ static size_t duels(const int32_t *p, size_t m, const struct tables *t, const in
         if (push)
             stack[kept++] = (uint32_t)y;
     }
-    *fought = d;
+    *fought += d;
     return kept;
 }
 
@@ -132,14 +179,20 @@ int same_search(const int32_t *p, size_t m, const struct tables *t, const int32_
                 uint32_t *positions, struct counts *c)
 {
     struct tables own;
-    size_t windows = m <= n ? n - m + 1 : 0, k;
-    same_prepare(p, m, &own);
-    if (memcmp(own.low, t->low, 2 * m) || memcmp(own.high, t->high, 2 * m) ||
+    struct stretch s = {0, 0, 0};
+    size_t windows = m <= n ? n - m + 1 : 0, arrived = 0, kept = 0, k;
+    if (!same_prepare(p, m, &own) || memcmp(own.low, t->low, 2 * m) || memcmp(own.high, t->high, 2 * m) ||
         memcmp(own.witness_i, t->witness_i, 2 * m) || memcmp(own.witness_j, t->witness_j, 2 * m))
         return 0;
     c->windows = (uint32_t)windows;
-    c->survivors = (uint32_t)duels(p, m, t, trace, windows, survivors, &c->duels);
-    c->found = (uint32_t)sweep(m, t, trace, survivors, c->survivors, positions, &c->sweep);
+    c->duels = 0;
+    while (next_stretch(trace, n, m, &s)) {
+        arrived += s.end - s.from - m + 1;
+        kept = duels(p, m, t, trace, s.from, s.end, survivors, kept, &c->duels);
+    }
+    c->struck = (uint32_t)(windows - arrived);
+    c->survivors = (uint32_t)kept;
+    c->found = (uint32_t)sweep(m, t, trace, survivors, kept, positions, &c->sweep);
     for (k = c->survivors; k < windows; k++)
         survivors[k] = 4294967295u;
     for (k = c->found; k < windows; k++)
@@ -161,11 +214,12 @@ void kmp_prepare(const int32_t *p, size_t m, const struct tables *t, uint16_t *f
     }
 }
 
-size_t kmp_search(size_t m, const struct tables *t, const uint16_t *fail, const int32_t *trace, size_t n, uint32_t *positions)
+BY_ITSELF size_t kmp_stretch(size_t m, const struct tables *t, const uint16_t *fail, const int32_t *trace, size_t from, size_t end,
+                             uint32_t *positions)
 {
     size_t q = 0, found = 0;
     uint32_t cost = 0;
-    for (size_t i = 0; i < n; i++) {
+    for (size_t i = from; i < end; i++) {
         while (q > 0 && failing(t->low[q], t->high[q], trace + i - q, q, &cost) != NONE)
             q = fail[q];
         q++;
@@ -177,16 +231,34 @@ size_t kmp_search(size_t m, const struct tables *t, const uint16_t *fail, const 
     return found;
 }
 
-size_t naive_search(size_t m, const struct tables *t, const int32_t *trace, size_t n, uint32_t *positions)
+size_t kmp_search(size_t m, const struct tables *t, const uint16_t *fail, const int32_t *trace, size_t n, uint32_t *positions)
+{
+    struct stretch s = {0, 0, 0};
+    size_t found = 0;
+    while (next_stretch(trace, n, m, &s))
+        found += kmp_stretch(m, t, fail, trace, s.from, s.end, positions + found);
+    return found;
+}
+
+BY_ITSELF size_t naive_stretch(size_t m, const struct tables *t, const int32_t *trace, size_t from, size_t end, uint32_t *positions)
 {
     size_t found = 0;
     uint32_t cost = 0;
-    for (size_t x = 0; x + m <= n; x++) {
+    for (size_t x = from; x + m <= end; x++) {
         size_t j = 0;
         while (j < m && failing(t->low[j], t->high[j], trace + x, j, &cost) == NONE)
             j++;
         if (j == m)
             positions[found++] = (uint32_t)x;
     }
+    return found;
+}
+
+size_t naive_search(size_t m, const struct tables *t, const int32_t *trace, size_t n, uint32_t *positions)
+{
+    struct stretch s = {0, 0, 0};
+    size_t found = 0;
+    while (next_stretch(trace, n, m, &s))
+        found += naive_stretch(m, t, trace, s.from, s.end, positions + found);
     return found;
 }

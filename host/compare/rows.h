@@ -1,4 +1,4 @@
-/* The rows of the comparison: traces of six kinds with patterns cut from them, and the clock. */
+/* The rows of the comparison: traces of nine kinds with patterns cut from them, and the clock. */
 #ifndef ROWS_H
 #define ROWS_H
 
@@ -7,8 +7,9 @@
 
 #include "matchers.h"
 
-enum { KINDS = 6, MS = 5, NS = 3, TRACE = 65536 };
+enum { CLEAN = 6, KINDS = 9, MS = 5, NS = 3, TRACE = 65536 };
 
+/* The kinds by name. The first CLEAN have no lost stitch; the others are three of these with one sample of a hundred lost. */
 extern const char *const kinds[KINDS];
 extern const size_t ms[MS], ns[NS];
 
@@ -16,7 +17,8 @@ extern const size_t ms[MS], ns[NS];
 extern int32_t trace[TRACE], pattern[LONGEST];
 extern size_t m, n;
 
-/* Makes a row: the pattern is the middle of the trace or, where it is longer, a trace of the same kind. */
+/* Makes a row: the pattern is the middle of the trace, as it is before stitches are lost, or, where it is longer, a trace of the same
+ * kind with none lost. Exits where there is no such kind. */
 void make_row(const char *kind, size_t length, size_t samples);
 
 /* tension_prepare and tension_search of any archive on the row at hand; they exit where the call refuses. Counts has room for the
@@ -29,6 +31,9 @@ typedef uint64_t search_call(const uint8_t *, size_t, const uint8_t *, size_t, c
 void prepare_by(prepare_call *call, struct tables *t);
 void search_by(search_call *call, const struct tables *t, size_t samples, uint32_t *survivors, uint32_t *positions,
                uint32_t *counts);
+
+/* Whether an archive knows lost stitches, by its tension_prepare: it refuses a pattern that holds one. */
+int knows_lost(prepare_call *call);
 
 /* Seconds a call, of that many. */
 double a_call(void (*call)(void), size_t calls);

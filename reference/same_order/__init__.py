@@ -3,7 +3,7 @@
 facts      sizes, special values, the names of the counts
 refusals   every refusal: its number, its condition, its place
 brute      the plain definition over all pairs and all windows, no duels
-rules      neighbours, tests, witnesses, agreement, duels, sweep
+rules      neighbours, tests, witnesses, agreement, lost stitches, duels, sweep
 calls      preparation, search and agreement as calls on lent buffers
 recording  reading and writing recordings
 report     the text the program prints

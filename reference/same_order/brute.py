@@ -1,5 +1,7 @@
 """The definition itself, with no tables, no duels and no sweep."""
 
+from .facts import LOST
+
 
 def isomorphic(u, v):
     """u[i] <= u[j] exactly if v[i] <= v[j], tried on every pair."""
@@ -17,13 +19,20 @@ def ranks(values):
     return [rank[value] for value in values]
 
 
+def whole(m, trace):
+    """Start and samples of each window that holds no lost stitch."""
+    for x in range(len(trace) - m + 1):
+        window = trace[x:x + m]
+        if LOST not in window:
+            yield x, window
+
+
 def positions(pattern, trace):
     """All matching windows, each window judged by itself over all pairs."""
-    m = len(pattern)
-    return [x for x in range(len(trace) - m + 1) if isomorphic(pattern, trace[x:x + m])]
+    return [x for x, window in whole(len(pattern), trace) if isomorphic(pattern, window)]
 
 
 def positions_by_rank(pattern, trace):
     """The same list by ranks."""
-    m, wanted = len(pattern), ranks(pattern)
-    return [x for x in range(len(trace) - m + 1) if ranks(trace[x:x + m]) == wanted]
+    wanted = ranks(pattern)
+    return [x for x, window in whole(len(pattern), trace) if ranks(window) == wanted]

@@ -12,6 +12,7 @@ def prepare(pattern, tables):
     """Write entries 0 to m - 1 of the four tables."""
     m = len(pattern)
     refusals.pattern_length(m)
+    refusals.pattern_stitches(pattern)
     refusals.table_lengths(m, tables)
     for table, fresh in zip(tables, rules.tables(pattern)):
         table[:m] = fresh
@@ -22,16 +23,18 @@ def search(pattern, tables, trace, survivors, positions):
     m, n = len(pattern), len(trace)
     count = windows(m, n)
     refusals.pattern_length(m)
+    refusals.pattern_stitches(pattern)
     refusals.table_lengths(m, tables)
     refusals.trace_length(n)
     refusals.list_lengths(count, survivors, positions)
     refusals.table_entries(m, tables, rules.tables(pattern))
-    kept, fought = rules.duels(pattern, tables, trace)
+    arriving = rules.arrivals(m, trace)
+    kept, fought = rules.duels(pattern, tables, trace, arriving)
     listed, made = rules.sweep(pattern, tables, trace, kept)
     write_list(survivors, kept, count)
     write_list(positions, listed, count)
     return Counts(windows=count, duels=fought, survivors=len(kept),
-                  sweep=made, found=len(listed))
+                  sweep=made, found=len(listed), struck=count - len(arriving))
 
 
 def write_list(buffer, entries, count):

@@ -12,12 +12,13 @@ PROGRAM_TRACE = 2048
 NONE = 65535                 # table entry: no such place
 UNUSED = 4294967295          # list entry: nothing here
 SAMPLE_MIN, SAMPLE_MAX = -2147483648, 2147483647
+LOST = SAMPLE_MIN            # a lost stitch: sent when the arm lifts, no tension
 
 
 class Counts(NamedTuple):
     """The counts of an accepted search, in the order they are given out.
 
-    A field's name is also its word on the program's first line.
+    A field's name is also its word where the program's first line has it.
     """
 
     windows: int
@@ -25,6 +26,7 @@ class Counts(NamedTuple):
     survivors: int
     sweep: int
     found: int
+    struck: int
 
 
 FIRST_LINE = ("windows", "duels", "survivors", "sweep", "found")

@@ -3,12 +3,13 @@
 import random
 from itertools import islice
 
-from . import recording, report, rules
-from .facts import NONE, PATTERN_MAX, RECORDING_MAX, SAMPLE_MAX, SAMPLE_MIN, TRACE_MAX, UNUSED, windows
+from . import brute, recording, report, rules
+from .facts import LOST, NONE, PATTERN_MAX, RECORDING_MAX, SAMPLE_MAX, SAMPLE_MIN, TRACE_MAX, UNUSED, windows
 from .stream import TABLE_ROOM, Agree, Prepare, Read, Report, Search, Write
 
 P = [4, 9, 6, 6]
 T = [5, 8, 6, 6, 9, 7, 7, 2, 4, 3, 3]
+LEAST = LOST + 1             # the least tension, easily taken for a lost stitch
 
 
 # --- samples ---------------------------------------------------------------
@@ -43,9 +44,50 @@ def shape(rng, count):
     return [base] * count                           # level
 
 
-def extreme(rng, samples):
+def extreme(rng, samples, least=LEAST):
     """Some samples moved to the two ends of the range."""
-    return [rng.choice((SAMPLE_MIN, SAMPLE_MAX, s, s, s)) for s in samples]
+    return [rng.choice((least, SAMPLE_MAX, s, s, s)) for s in samples]
+
+
+def lowest(samples):
+    """The same shape, its least sample being the least tension."""
+    down = LEAST - min(samples, default=LEAST)
+    return [s + down for s in samples]
+
+
+def lost_at(places, samples):
+    """The samples with a lost stitch at each of these places; places outside do not matter."""
+    places = set(places)
+    return [LOST if t in places else s for t, s in enumerate(samples)]
+
+
+def scattered(rng, share, samples):
+    """The samples with about one in `share` lost."""
+    return [s if rng.randrange(share) else LOST for s in samples]
+
+
+def lose(rng, pattern, trace):
+    """A trace with lost stitches, laid so that some windows are struck and others just not."""
+    m, n = len(pattern), len(trace)
+    way = rng.randrange(12)
+    if way <= 3:
+        return scattered(rng, rng.choice((3, 8, 20, 100)), trace)
+    if way <= 5:                                    # a run
+        first = rng.randrange(n + 1)
+        return lost_at(range(first, first + rng.randrange(1, 7)), trace)
+    if way <= 7:                                    # at a beat: one in each window, more, or fewer
+        beat = max(m + rng.choice((-1, 0, 0, 0, 1, 2)), 1)
+        return lost_at(range(rng.randrange(beat), n, beat), trace)
+    if way == 8:                                    # at the ends
+        return lost_at(rng.choice(((0,), (n - 1,), (0, n - 1))), trace)
+    if way == 9:                                    # all, or all but one window
+        first, kept = rng.randrange(n + 1), rng.choice((0, m))
+        return lost_at({*range(n)} - {*range(first, first + kept)}, trace)
+    matches = brute.positions_by_rank(pattern, trace)
+    if not matches:
+        return trace
+    x = rng.choice(matches)                         # right before and behind a match
+    return lost_at(rng.choice(((x - 1,), (x + m,), (x - 1, x + m))), trace)
 
 
 def copy(rng, samples):
@@ -78,11 +120,39 @@ def pair(rng, m, n):
     elif way <= 3 and n >= m:                       # the pattern is taken from the trace
         x = rng.randrange(n - m + 1)
         pattern = copy(rng, trace[x:x + m])
-    if rng.randrange(15) == 0:
+    if rng.randrange(30) == 0:
         trace = extreme(rng, trace)
     if rng.randrange(25) == 0:
         pattern = extreme(rng, pattern)
+    if rng.randrange(10) == 0:
+        trace = lose(rng, pattern, trace if rng.randrange(4) else lowest(trace))
     return pattern, trace
+
+
+def steady(rng):
+    """A steady pattern and a trace mostly like it, in stretches between lost stitches.
+
+    A program may take the windows of such a pattern by the machine word, so
+    the stretches hold some 64 of them, or 128.
+    """
+    m, step = rng.choice((1, 2, 3, 8, 30)), rng.choice((1, 0, -1))
+    trace = [LOST] * rng.choice((0, 0, 1, 3))
+    for _ in range(rng.randrange(1, 4)):
+        at, even = 0, rng.choice((20, 100, 10000))  # how often the trace leaves the step
+        for _ in range(m - 1 + rng.choice((63, 64, 65, 128, rng.randrange(1, 150)))):
+            trace.append(at)
+            at += step if rng.randrange(even) else rng.choice((1, 0, -1))
+        trace += [LOST] * rng.choice((0, 1, 1, 2, m, 70))
+    return [step * j for j in range(m)], trace
+
+
+def spoilt(rng, pattern):
+    """1 pattern in 40 holds a lost stitch, or several."""
+    if not pattern or rng.randrange(40):
+        return pattern
+    places = range(len(pattern))
+    some = rng.choice((places[:1], places[-1:], rng.choices(places), rng.choices(places, k=3), places))
+    return lost_at(some, pattern)
 
 
 # --- lengths ---------------------------------------------------------------
@@ -133,19 +203,19 @@ def prepare_case(rng):
     pattern = shape(rng, m)
     if rng.randrange(15) == 0:
         pattern = extreme(rng, pattern)
-    return Prepare(pattern, table_lengths(rng, m))
+    return Prepare(spoilt(rng, pattern), table_lengths(rng, m))
 
 
 def search_case(rng):
-    m, n = sizes(rng)
-    pattern, trace = pair(rng, m, n)
+    pattern, trace = steady(rng) if rng.randrange(400) == 0 else pair(rng, *sizes(rng))
+    pattern = spoilt(rng, pattern)
     if rng.randrange(400) == 0:                     # above a limit, level to stay compact
+        level = rng.choice((rng.randrange(9), LOST))
         if rng.randrange(2):
-            pattern = [rng.randrange(9)] * rng.randrange(PATTERN_MAX + 1, TABLE_ROOM + 1)
+            pattern = [level] * rng.randrange(PATTERN_MAX + 1, TABLE_ROOM + 1)
         else:
-            trace = [rng.randrange(9)] * rng.randrange(TRACE_MAX + 1, 65600 + 1)
-        m, n = len(pattern), len(trace)
-    count = windows(m, n)
+            trace = [level] * rng.randrange(TRACE_MAX + 1, 65600 + 1)
+    m, count = len(pattern), windows(len(pattern), len(trace))
     return Search(pattern, table_lengths(rng, m), trace,
                   lent(rng, count, 65600), lent(rng, count, 65600), damages(rng, m))
 
@@ -201,7 +271,7 @@ def lead(rng):
 
 def samples(rng, count):
     made = shape(rng, count)
-    return extreme(rng, made) if rng.randrange(4) == 0 else made
+    return extreme(rng, made, SAMPLE_MIN) if rng.randrange(4) == 0 else made
 
 
 def edge_lead(rng, length):
@@ -234,6 +304,7 @@ def report_case(rng):
     if draw == 0:
         m, n = rng.choice(((3, 2048), (3, 2049), (1024, 1500), (1025, 1100), (1024, 2048)))
     pattern, trace = pair(rng, m, n)
+    pattern = spoilt(rng, pattern)
     between = lead(rng) if rng.randrange(20) == 0 else b""    # hides the pattern
     first, second = recording.made(pattern), recording.made(trace, between)
     first = (edge_lead(rng, len(first) + len(second)) if draw == 0 else lead(rng)) + first
@@ -272,7 +343,7 @@ def prepare_corners():
     yield Prepare(P, [4] * 4)
     yield Prepare([], [0] * 4)
     yield Prepare([7], [1] * 4)
-    yield Prepare([SAMPLE_MIN, SAMPLE_MAX], [3] * 4)
+    yield Prepare([LEAST, SAMPLE_MAX], [3] * 4)
     for number in range(4):                         # each table short by itself
         yield Prepare(P, [3 if k == number else 5 for k in range(4)])
     saw = [t % 7 for t in range(1025)]
@@ -280,6 +351,26 @@ def prepare_corners():
     yield Prepare(saw, [1100] * 4)
     yield Prepare(list(range(1024)), [1100] * 4)
     yield Prepare([0] * 1024, [1024, 1024, 1024, 1023])
+    for pattern in lost_patterns():
+        yield Prepare(pattern, [len(pattern)] * 4)
+        yield Prepare(pattern, [0] * 4)
+    for number in range(4):
+        yield Prepare([3, LOST, LOST], [2 if k == number else 3 for k in range(4)])
+    yield Prepare([LOST] * 1024, [1024] * 4)
+    yield Prepare([0] * 1023 + [LOST], [1100] * 4)
+    for room in (1100, 0):                          # too long whatever it holds
+        yield Prepare([LOST] * 1025, [room] * 4)
+    yield Prepare(lowest(P), [4] * 4)
+
+
+def lost_patterns():
+    """Patterns with a lost stitch at the first, a middle, the last place, at several, at all."""
+    yield [LOST]
+    yield [LOST, SAMPLE_MAX]
+    yield [LEAST, LOST]
+    yield [3, LOST, LOST]
+    for place in range(4):
+        yield lost_at((place,), P)
 
 
 def exact_search(pattern, trace, **more):
@@ -290,7 +381,7 @@ def exact_search(pattern, trace, **more):
 def search_corners():
     for pattern, trace in ((P, T), (P, [5] * 5), (P, [1, 2, 3, 4, 5]), ([7], [3, 3]),
                            (P, [1, 2, 3]), (P, [4, 9, 7, 6]), ([1, 2, 3], [1, 2, 3, 4, 5]),
-                           ([SAMPLE_MIN, SAMPLE_MAX], [SAMPLE_MAX, SAMPLE_MIN, 0]),
+                           ([LEAST, SAMPLE_MAX], [SAMPLE_MAX, LEAST, 0]),
                            ([], [1]), ([1], []), ([1], [1]), ([6, 6], [7, 3, 3, 7, 7]),
                            ([12, 50, 10, 17], [8, 13, 5, 21, 14, 18, 20, 25, 15, 22])):
         yield exact_search(pattern, trace)
@@ -310,7 +401,75 @@ def search_corners():
     yield exact_search(P, [5] * TRACE_MAX)
     yield Search(P, [4] * 4, [5] * TRACE_MAX, TRACE_MAX - 4, TRACE_MAX)
     yield exact_search(P, [5] * (TRACE_MAX + 1))
-    yield exact_search([1, 2, 3], [t % 100 for t in range(5000)])
+    yield exact_search([1, 2, 3], [t % 100 for t in range(2500)])
+    yield from lost_corners()
+    yield from stretch_corners()
+    yield from long_lost_corners()
+    yield from lost_pattern_corners()
+
+
+def lost_corners():
+    """Short traces with lost stitches."""
+    for pattern, trace in (([7], [LOST, LOST]), ([1, 2], [1, 2, LOST, 1, 2]),
+                           ([1, 2, 3], [1, 2, 2, LOST, 1, 2, 3]), ([7], [LEAST, LOST, LEAST]),
+                           ([LEAST, 0], [LEAST, SAMPLE_MAX, LOST, LEAST, LEAST, SAMPLE_MAX]),
+                           ([1, 2], [LOST, LEAST]), ([2, 1], [LEAST, LOST]), ([1, 1], [LOST, LOST]),
+                           (P, [LOST] * 3), (P, [LOST] * 4), (P, [LOST] * 9), (P, [LEAST] * 5)):
+        yield exact_search(pattern, trace)
+    low = lowest(T)
+    for place in range(len(T)):                     # a lost stitch in place of each one
+        yield exact_search(P, lost_at((place,), low if place % 2 else T))
+        yield exact_search([1, 2, 3], lost_at((place,), range(len(T))))
+    for place in range(len(T) + 1):                 # and between each two: beside every match
+        yield exact_search(P, low[:place] + [LOST] + low[place:])
+    for m in (1, 2, 3, 4):                          # at a beat: one in every window, then some whole
+        for beat in (m, m + 1):
+            yield exact_search(P[:m], lost_at(range(beat - 1, 11, beat), T))
+    yield exact_search(P, lost_at(range(0, 11, 3), T))      # runs shorter than the pattern
+    for run in (1, 3, 4, 9):
+        yield exact_search(P, [LOST] * run + T + [LOST] * run + T)
+    one = lost_at((5,), T)                          # lists go by all windows, struck or not
+    for survivors, positions in ((7, 8), (8, 7), (4, 4), (9, 10)):
+        yield Search(P, [4] * 4, one, survivors, positions)
+    yield Search(P, [4] * 4, [LOST] * 11, 0, 0)
+    for number in range(1, 5):                      # tables are checked for no window too
+        yield exact_search(P, [LOST] * 8, damages=[(number, 3, 5)])
+
+
+def stretch_corners():
+    """Steady patterns over traces steady as they are, in stretches of about 64 and 128 windows."""
+    for pattern in ([7], [1, 2, 3], [3, 2, 1, 0], [5, 5], list(range(70))):
+        m, step, trace = len(pattern), pattern[-1] - pattern[0], []
+        for count in (63, 64, 65, 1, 128, 129):
+            trace += [step * t for t in range(count + m - 1)] + [LOST]
+        yield exact_search(pattern, trace)
+
+
+def long_lost_corners():
+    """Longer traces with one stitch in 100 lost, or all."""
+    rng = random.Random("one stitch in 100")
+    rising, saw = list(range(2500)), [t % 7 for t in range(2500)]
+    for pattern, trace in ((P, saw[:400]), ([0] * 70, [5] * 1000), (rising[:70], rising), (saw[:20], saw)):
+        yield exact_search(pattern, scattered(rng, 100, trace))
+    yield exact_search(P, [LOST] * TRACE_MAX)
+
+
+def lost_pattern_corners():
+    """Patterns that hold a lost stitch, alone and with what is refused before and after it."""
+    for pattern in lost_patterns():
+        yield exact_search(pattern, [SAMPLE_MAX, LOST, 0])
+        yield Search(pattern, [0] * 4, [SAMPLE_MAX, LOST, 0], 0, 0)
+    for number in range(4):
+        yield Search([3, LOST, LOST], [2 if k == number else 3 for k in range(4)], T, 9, 9)
+    yield exact_search([LOST] * 1025, [LOST] * 1030)
+    yield Search([0] * 1024 + [LOST], [0] * 4, [1], 0, 0)
+    yield exact_search([0] * 1023 + [LOST], [0] * 1030)
+    bad = lost_at((2,), P)
+    yield exact_search(bad, [5] * (TRACE_MAX + 1))
+    yield Search(bad, [4] * 4, T, 7, 8)
+    yield Search(bad, [4] * 4, T, 8, 7)
+    for number in range(1, 5):
+        yield exact_search(bad, T, damages=[(number, 0, 5)])
 
 
 def agree_corners():
@@ -364,6 +523,16 @@ def report_corners():
     for m, n in ((1024, 2048), (1025, 10), (1, 2049)):
         yield Report(recording.made([t % 5 for t in range(n)],
                                      recording.made([t % 5 for t in range(m)])), 40000)
+    for pattern in lost_patterns():
+        yield Report(recording.made(T, recording.made(pattern)), 40000)
+    bad = recording.made([3, LOST, LOST])
+    yield Report(recording.made([], bad), 40000)
+    yield Report(recording.made(T, bad)[:-1], 40000)
+    yield Report(recording.made([LOST] * 9, recording.made([LOST] * 1025)), 40000)
+    for pattern, trace in (([7], [LOST, LOST]), ([1, 2], [1, 2, LOST, 1, 2]), (P, lost_at((5,), T)),
+                           ([LEAST, SAMPLE_MAX], [SAMPLE_MAX, LEAST, LOST, LEAST, 0]),
+                           (P, lost_at(range(0, 2048, 90), T * 187))):
+        yield Report(recording.made(trace[:2048], recording.made(pattern)), 40000)
 
 
 def write_corners():

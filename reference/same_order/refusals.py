@@ -5,7 +5,7 @@ call tries them is the order of the lines in that call (calls, recording,
 report).
 """
 
-from .facts import INPUT_MAX, PATTERN_MAX, RECORDING_MAX, TRACE_MAX
+from .facts import INPUT_MAX, LOST, PATTERN_MAX, RECORDING_MAX, TRACE_MAX
 
 
 class Refused(Exception):
@@ -31,6 +31,7 @@ class Refused(Exception):
         18: "more bytes in use than the buffer has",
         19: "too many samples for a recording",
         20: "no room for samples and trailer",
+        21: "the pattern holds a lost stitch",
     }
 
     def __init__(self, number, place):
@@ -44,6 +45,11 @@ def pattern_length(m):
         raise Refused(1, 0)
     if m > PATTERN_MAX:
         raise Refused(2, m)
+
+
+def pattern_stitches(pattern):
+    if LOST in pattern:
+        raise Refused(21, pattern.index(LOST))
 
 
 def table_lengths(m, tables, first=1):

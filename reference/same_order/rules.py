@@ -1,6 +1,6 @@
 """The rules step by step, counting from zero, with every comparison counted."""
 
-from .facts import NONE, Tables, windows
+from .facts import LOST, NONE, Tables, windows
 
 
 def relation(a, b):
@@ -62,11 +62,16 @@ def agree(m, witness_i, x, y):
     return offset == 0 or offset >= m or witness_i[offset] == NONE
 
 
-def duels(pattern, table, trace):
+def arrivals(m, trace):
+    """The windows that no lost stitch strikes, in ascending order."""
+    return [x for x in range(windows(m, len(trace))) if LOST not in trace[x:x + m]]
+
+
+def duels(pattern, table, trace, arriving):
     """Returns the survivors in ascending order and the number of duels."""
     m, wi, wj = len(pattern), table.witness_i, table.witness_j
     stack, fought = [], 0
-    for y in range(windows(m, len(trace))):
+    for y in arriving:
         y_falls = False
         while stack and not y_falls and not agree(m, wi, stack[-1], y):
             a = y - stack[-1]

@@ -70,6 +70,8 @@ class Commands(unittest.TestCase):
         self.assertEqual(self.good("search", given=EXAMPLE),
                          b"windows 8 duels 5 survivors 3 sweep 12 found 3\n0\n3\n7\n")
         self.assertEqual(self.good("search", given=b"short"), b"trace refusal 8 place 5\n")
+        lost = recording.made([1], recording.made([3, -2147483648]))
+        self.assertEqual(self.good("search", given=lost), b"search refusal 21 place 1\n")
         self.bad(2, "unrecognized", "search", "file")
 
     def cases(self, name, **changes):

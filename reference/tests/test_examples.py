@@ -4,7 +4,7 @@ import struct
 import unittest
 
 from same_order import calls, recording, rules
-from same_order.facts import NONE, SAMPLE_MAX, SAMPLE_MIN, Tables, UNUSED, windows
+from same_order.facts import LOST, NONE, SAMPLE_MAX, Tables, UNUSED, windows
 from same_order.refusals import Refused
 
 P = [4, 9, 6, 6]
@@ -44,29 +44,29 @@ class Examples(unittest.TestCase):
         self.assertEqual(search(pattern, trace), (counts, survivors, positions))
 
     def test_c(self):
-        self.check(P, [5, 8, 6, 6, 9, 7, 7, 2, 4, 3, 3], (8, 5, 3, 12, 3), [0, 3, 7], [0, 3, 7])
+        self.check(P, [5, 8, 6, 6, 9, 7, 7, 2, 4, 3, 3], (8, 5, 3, 12, 3, 0), [0, 3, 7], [0, 3, 7])
 
     def test_d_both_fall(self):
-        self.check(P, [5] * 5, (2, 1, 0, 0, 0), [], [])
+        self.check(P, [5] * 5, (2, 1, 0, 0, 0, 0), [], [])
 
     def test_e(self):
-        self.check(P, [1, 2, 3, 4, 5], (2, 1, 1, 3, 0), [1], [])
+        self.check(P, [1, 2, 3, 4, 5], (2, 1, 1, 3, 0, 0), [1], [])
 
     def test_f_one_sample(self):
-        self.check([7], [3, 3], (2, 0, 2, 0, 2), [0, 1], [0, 1])
+        self.check([7], [3, 3], (2, 0, 2, 0, 2, 0), [0, 1], [0, 1])
 
     def test_g_no_window(self):
-        self.check(P, [1, 2, 3], (0, 0, 0, 0, 0), [], [])
+        self.check(P, [1, 2, 3], (0, 0, 0, 0, 0, 0), [], [])
 
     def test_h(self):
-        self.check(P, [4, 9, 7, 6], (1, 0, 1, 4, 0), [0], [])
+        self.check(P, [4, 9, 7, 6], (1, 0, 1, 4, 0, 0), [0], [])
 
     def test_i_the_sweep_goes_on_where_it_stood(self):
-        self.check([1, 2, 3], [1, 2, 3, 4, 5], (3, 0, 3, 4, 3), [0, 1, 2], [0, 1, 2])
+        self.check([1, 2, 3], [1, 2, 3, 4, 5], (3, 0, 3, 4, 3, 0), [0, 1, 2], [0, 1, 2])
 
-    def test_j_ends_of_the_range(self):
-        self.check([SAMPLE_MIN, SAMPLE_MAX], [SAMPLE_MAX, SAMPLE_MIN, 0],
-                   (2, 0, 2, 2, 1), [0, 1], [1])
+    def test_j_ends_of_the_tensions(self):
+        least = LOST + 1
+        self.check([least, SAMPLE_MAX], [SAMPLE_MAX, least, 0], (2, 0, 2, 2, 1, 0), [0, 1], [1])
 
     def test_k_sizes(self):
         saw = [t % 3 for t in range(1025)]

@@ -62,8 +62,8 @@ class WorkedTables(unittest.TestCase):
         printed = [[1], [1], [1, 3], [1, 3], [1, 3, 5], [1, 3, 6], [1, 3, 7]]
         fought = [0, 1, 1, 2, 2, 3, 4]              # duels told of up to each line
         for y, stack in enumerate(printed):
-            # The stack after window y is what survives of the trace up to y's end.
-            self.assertEqual(rules.duels(pattern, tables, trace[:y + 4]),
+            # The stack after window y is what survives if no later one arrives.
+            self.assertEqual(rules.duels(pattern, tables, trace, range(y + 1)),
                              ([x - 1 for x in stack], fought[y]))
 
     def test_ties_the_function_F_would_pass(self):
@@ -76,4 +76,4 @@ class WorkedTables(unittest.TestCase):
     def test_both_windows_may_fall(self):
         # The witness 12 < 50 against 50 > 10 met by a tie: there window 0
         # would be kept, here neither stays.
-        self.assertEqual(search([12, 50, 10, 17], [7] * 5)[:2], ((2, 1, 0, 0, 0), []))
+        self.assertEqual(search([12, 50, 10, 17], [7] * 5)[:2], ((2, 1, 0, 0, 0, 0), []))

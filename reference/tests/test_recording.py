@@ -4,6 +4,7 @@ import struct
 import unittest
 
 from same_order import recording, report
+from same_order.facts import LOST
 from tests.test_examples import P, refusal
 
 T = [5, 8, 6, 6, 9, 7, 7, 2, 4, 3, 3]
@@ -104,10 +105,21 @@ class Text(unittest.TestCase):
                 (recording.made(T), "pattern refusal 8 place 0"),
                 (recording.made(T, b"x" * 13), "pattern refusal 9 place 9"),
                 (both([], T), "search refusal 1 place 0"),
+                (both([3, LOST, LOST], T), "search refusal 21 place 1"),
+                (both([LOST], []), "search refusal 21 place 0"),
+                (both([LOST], T)[:-1] + b"c", "trace refusal 9 place 68"),
+                (both([LOST] * 1025, T), "pattern refusal 12 place 1025"),
                 (both([1] * 1025, T), "pattern refusal 12 place 1025"),
                 (both(P, [1] * 2049), "trace refusal 12 place 2049"),
                 (bytes(16385 - 84) + good, "input refusal 13 place 16384")):
             self.assertEqual(report.text(data), line + "\n")
+
+    def test_lost_stitches(self):
+        for pattern, trace, text in (
+                ([7], [LOST, LOST], "windows 2 duels 0 survivors 0 sweep 0 found 0\n"),
+                ([1, 2, 3], [1, 2, 2, LOST, 1, 2, 3],
+                 "windows 5 duels 0 survivors 2 sweep 4 found 1\n4\n")):
+            self.assertEqual(report.text(recording.made(trace, recording.made(pattern))), text)
 
     def test_full_buffers(self):
         data = recording.made([1] * 2048, recording.made([1] * 1024))

@@ -4,12 +4,12 @@ import random
 import unittest
 
 from same_order import brute, calls, generate, rules
-from same_order.facts import NONE, Tables, UNUSED, windows
+from same_order.facts import LOST, NONE, Tables, UNUSED, windows
 from tests.test_examples import P, refusal, search
 
 
 def pairs(count, seed):
-    """Small random patterns with traces, m at least 1."""
+    """Small random patterns with traces, m at least 1; some traces have lost stitches."""
     rng = random.Random(seed)
     for _ in range(count):
         yield generate.pair(rng, rng.randrange(1, 10), rng.randrange(30))
@@ -18,6 +18,12 @@ def pairs(count, seed):
 def first_break(u, v):
     """Length of the longest isomorphic beginnings of u and v."""
     return max(k for k in range(len(u) + 1) if brute.isomorphic(u[:k], v[:k]))
+
+
+def holders(m, trace):
+    """The windows that hold a lost stitch, told from the places of those lost."""
+    return {x for place, sample in enumerate(trace) if sample == LOST
+            for x in range(place - m + 1, place + 1) if 0 <= x <= len(trace) - m}
 
 
 class Preparation(unittest.TestCase):
@@ -65,26 +71,31 @@ class Preparation(unittest.TestCase):
 
 class Searching(unittest.TestCase):
     def test_list_and_demands(self):
-        matches = struck = 0
+        matches = fallen = lost = 0
         for pattern, trace in pairs(4000, "demands"):
             m, n = len(pattern), len(trace)
-            (count, duels, kept, sweep, found), survivors, positions = search(pattern, trace)
+            counts, survivors, positions = search(pattern, trace)
+            count, duels, kept, sweep, found, struck = counts
             true = brute.positions(pattern, trace)
             self.assertEqual(positions, true, (pattern, trace))
             self.assertEqual((count, kept, found), (windows(m, n), len(survivors), len(true)))
             self.assertLessEqual(set(true), set(survivors))
+            self.assertEqual(struck, len(holders(m, trace)), (pattern, trace))
+            self.assertFalse(holders(m, trace) & {*survivors}, (pattern, trace))
             witness_i = rules.tables(pattern).witness_i
             for k, x in enumerate(survivors):
                 for y in survivors[k:]:
                     self.assertTrue(rules.agree(m, witness_i, x, y), (pattern, trace, x, y))
-            self.assertLessEqual(duels + kept, count)
-            self.assertLessEqual(count - kept, 2 * duels)      # a duel fells one or two
+            self.assertLessEqual(duels + kept + struck, count)
+            self.assertLessEqual(count - struck - kept, 2 * duels)     # a duel fells one or two
             self.assertLessEqual(sweep, 2 * (n + kept))
             self.assertEqual(sweep, self.recount(pattern, trace, survivors))
             matches += found
-            struck += count - kept
+            fallen += count - struck - kept
+            lost += struck
         self.assertGreater(matches, 5000)
-        self.assertGreater(struck, 5000)
+        self.assertGreater(fallen, 5000)
+        self.assertGreater(lost, 1000)
 
     @staticmethod
     def recount(pattern, trace, survivors):

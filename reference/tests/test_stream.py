@@ -2,9 +2,10 @@
 
 import unittest
 from collections import Counter
+from itertools import islice
 
-from same_order import generate, stream
-from same_order.facts import NONE, UNUSED
+from same_order import brute, generate, rules, stream
+from same_order.facts import LOST, NONE, UNUSED
 
 KIND_BYTES = {"prepare": 1, "search": 2, "agree": 3, "read": 4, "report": 5, "write": 6}
 
@@ -59,8 +60,12 @@ class Lines(unittest.TestCase):
                  "prepare 0 0\nlow 65535 0 0 2 g1\nhigh 65535 65535 1 2\n"
                  "wi 65535 0 0 65535 g2\nwj 65535 1 1 65535\n"),
                 (stream.Prepare(p, [4, 0, 6, 4]), "prepare 3 2\nlow g4\nhigh\nwi g6\nwj g4\n"),
+                (stream.Prepare([3, LOST], [0, 1, 2, 3]), "prepare 21 1\nlow\nhigh g1\nwi g2\nwj g3\n"),
                 (stream.Search(p, [4] * 4, t, 10, 8),
-                 "search 0 0 8 5 3 12 3\nsurvivors 0 3 7 u5 g2\npositions 0 3 7 u5\n"),
+                 "search 0 0 8 5 3 12 3 0\nsurvivors 0 3 7 u5 g2\npositions 0 3 7 u5\n"),
+                (stream.Search([1, 2, 3], [3] * 4, [1, 2, 2, LOST, 1, 2, 3], 5, 6),
+                 "search 0 0 5 0 2 4 1 3\nsurvivors 0 4 u3\npositions 4 u4 g1\n"),
+                (stream.Search([3, LOST], [0] * 4, t, 1, 0), "search 21 1\nsurvivors g1\npositions\n"),
                 (stream.Search(p, [4] * 4, t, 10, 8, [(3, 2, 9)]),
                  "search 16 2\nsurvivors g10\npositions g8\n"),
                 (stream.Search([0] * 1025, [1100] * 4, [], 0, 0),
@@ -86,6 +91,8 @@ class Lines(unittest.TestCase):
         for long in (1, 400):
             with self.assertRaises(AssertionError):
                 stream.confirm([1, 2], [3, 4, 4] * long, [0, 1])
+            with self.assertRaises(AssertionError):
+                stream.confirm([1, 2], [LOST, 4, 3] * long, list(range(0, 3 * long, 3)))
 
 
 class Spread(unittest.TestCase):
@@ -94,7 +101,7 @@ class Spread(unittest.TestCase):
         return Counter(tuple(line.split()[:take]) for line in lines if line.startswith(kind))
 
     def test_every_refusal_comes_up(self):
-        for kind, numbers in (("prepare", (0, 1, 2, 3)), ("search", (*range(7), *range(14, 18))),
+        for kind, numbers in (("prepare", (0, 1, 2, 3, 21)), ("search", (*range(7), *range(14, 18), 21)),
                               ("agree", (0, 1, 2, 3)), ("read", (0, 8, 9, 10, 11, 12)),
                               ("write", (0, 18, 19, 20))):
             found = self.heads(kind, 600)
@@ -126,7 +133,7 @@ class Spread(unittest.TestCase):
     def test_every_word_comes_up(self):
         text = "".join(case.expected() for case in generate.cases("report", 600, 11))
         for word in ("windows ", "input refusal 13", "trace refusal 12", "pattern refusal 9",
-                     "search refusal 1", "kept"):
+                     "search refusal 1 ", "search refusal 21 ", "kept"):
             self.assertIn("\n" + word, text)
 
     def test_searches_match_and_strike(self):
@@ -137,8 +144,37 @@ class Spread(unittest.TestCase):
         self.assertGreater(sum(c[1] > 3 for c in counts), 150)         # several duels
         self.assertGreater(sum(c[4] < c[2] for c in counts), 100)      # failed in the sweep
 
+    def test_lost_stitches_come_up(self):
+        met, corners = Counter(), len(list(generate.search_corners()))
+        for case in islice(generate.cases("search", corners + 1500, 3), corners, None):
+            m, trace, answer = len(case.pattern), case.trace, case.expected().split("\n")
+            if LOST not in trace or not answer[0].startswith("search 0 "):
+                continue
+            windows, _, kept, _, found, struck = map(int, answer[0].split()[3:])
+            listed = [int(word) for word in answer[2].split()[1:] if word.isdigit()]
+            met["some struck, some listed"] += bool(struck and found)
+            met["some struck, some fell"] += bool(struck) and kept < windows - struck
+            met["all struck"] += bool(windows) and struck == windows
+            met["none struck"] += struck == 0
+            met["lost first"] += trace[0] == LOST
+            met["lost last"] += trace[-1] == LOST
+            met["one in each window"] += bool(windows) and all(
+                trace[x:x + m].count(LOST) == 1 for x in range(windows))
+            met["before a match"] += any(x and trace[x - 1] == LOST for x in listed)
+            met["behind a match"] += any(trace[x + m:x + m + 1] == [LOST] for x in listed)
+            met["the least tension beside it"] += generate.LEAST in trace
+        self.assertEqual(len(met), 10)
+        self.assertGreater(min(met.values()), 4, met)
+
+    def test_stretches_of_steady_windows(self):
+        for case in generate.stretch_corners():
+            arriving = rules.arrivals(len(case.pattern), case.trace)
+            runs = Counter(x - k for k, x in enumerate(arriving)).values()
+            self.assertLessEqual({63, 64, 65, 128, 129}, set(runs))
+            self.assertEqual(brute.positions_by_rank(case.pattern, case.trace), arriving)
+
     def test_same_seed_same_cases(self):
-        first, again, other = (list(generate.cases("all", 300, s)) for s in (1, 1, 2))
+        first, again, other = (list(generate.cases("all", 400, s)) for s in (1, 1, 2))
         self.assertEqual(first, again)
         self.assertNotEqual(first, other)
         self.assertEqual({type(case) for case in first}, set(stream.KINDS.values()))

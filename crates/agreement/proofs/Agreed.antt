@@ -10,11 +10,11 @@ use lib.ListN.{length, getD}
 use borrow.Author.Tests.{eqb-true, eqb-false, eq-eqb, ne-eqb}
 use Rattle.order.specs.Sizes.{noPlace}
 use Rattle.order.specs.Agree.{distance, agreeByTable}
-use Rattle.order.specs.Refusals.{Verdict, accepted, refused, prepareVerdict, agreeVerdict, verdictNumber, verdictPlace}
+use Rattle.order.specs.Refusals.{Verdict, accepted, refused, agreeVerdict, verdictNumber, verdictPlace}
 use Rattle.order.specs.declared.refusal.Refusal.{Refusal}
 use Rattle.sizes.specs.declared.answers.Checked.the-variants.{Fine, Refused}
 use Rattle.sizes.specs.Answers.{checkedBy}
-use Rattle.sizes.proofs.Verdicts.{fine-accepted, refused-why, agree-sizes}
+use Rattle.sizes.proofs.Verdicts.{fine-accepted, refused-why}
 use Rattle.agreement.specs.declared.answers.Agreement.{Agreement}
 use Rattle.agreement.specs.declared.answers.Agreement.the-variants.{Refused as NotCompared}
 use Rattle.agreement.specs.Answers.{agreementNumber, agreementPlace, saysAgree, agreementOf, agreementBy}
@@ -59,18 +59,18 @@ unfolding agreeByTable
 at-distance m a wi x y e = rw (e, together x y) refl
 
 pub agree-refused : (m : ℕ) (wi wj : List ℕ) (x y : ℕ) (why : Refusal) →
-    Refused why ≡ checkedBy (prepareVerdict m m m (length wi) (length wj)) → AgreePromise m wi wj x y (NotCompared why)
+    Refused why ≡ checkedBy (agreeVerdict m (length wi) (length wj)) → AgreePromise m wi wj x y (NotCompared why)
 agree-refused m wi wj x y why e =
     agree-promised m wi wj x y (NotCompared why)
-    (ap (λ w. agreementBy w (agreeByTable m wi x y)) (sym (sym (agree-sizes m (length wi) (length wj)) ∙ refused-why (prepareVerdict m m m (length wi) (length wj)) why e)))
+    (ap (λ w. agreementBy w (agreeByTable m wi x y)) (sym (refused-why (agreeVerdict m (length wi) (length wj)) why e)))
 
 pub agree-compared : (m a : ℕ) (wi wj : List ℕ) (x y : ℕ) (r : Agreement) →
-    Fine ≡ checkedBy (prepareVerdict m m m (length wi) (length wj)) → a ≡ distance x y →
+    Fine ≡ checkedBy (agreeVerdict m (length wi) (length wj)) → a ≡ distance x y →
     r ≡ agreementOf (eqb a 0 || (leb m a || eqb (getD wi a 0) noPlace)) → AgreePromise m wi wj x y r
 agree-compared m a wi wj x y r e d h =
     agree-promised m wi wj x y r
     (h ∙ ap agreementOf (at-distance m a wi x y d) ∙
-    ap (λ w. agreementBy w (agreeByTable m wi x y)) (sym (sym (agree-sizes m (length wi) (length wj)) ∙ fine-accepted (prepareVerdict m m m (length wi) (length wj)) e)))
+    ap (λ w. agreementBy w (agreeByTable m wi x y)) (sym (fine-accepted (agreeVerdict m (length wi) (length wj)) e)))
 
 pub agree-only-answer : (m : ℕ) (wi wj : List ℕ) (x y : ℕ) (r s : Agreement) →
     AgreePromise m wi wj x y r → AgreePromise m wi wj x y s → r ≡ s

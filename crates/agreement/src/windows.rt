@@ -39,7 +39,7 @@ fn agree_at(m: usize, witness_i: &[u16], offset: Offset) -> Agreement
 pub fn agree(m: usize, witness_i: &[u16], witness_j: &[u16], x: Window, y: Window) -> Agreement
     ensures { λ r. ⌜ AgreePromise m (now («witness_i» .entry)) (now («witness_j» .entry)) (x .0) (y .0) r ⌝ }
 {
-    match sizes::for_tables(m, m, m, witness_i.len(), witness_j.len()) {
+    match sizes::for_agreement(m, witness_i.len(), witness_j.len()) {
         Checked::Refused(why) => Agreement::Refused(why),
         Checked::Fine => agree_at(m, witness_i, Offset::between(x, y)),
     }

@@ -2,4 +2,5 @@
 pub mod CodeLaws
 pub mod MeetingByEntries
 pub mod StackLaws
+pub mod LostRuns
 pub mod Promised

@@ -1,5 +1,5 @@
 -- Shows: what two windows' meeting comes to, by the entries of their distance: they agree where they are far apart or the first entry is
--- none, and otherwise duel inside the pattern. Where no entry names a place, windows beside each other agree.
+-- none, and otherwise duel inside the pattern. Where no entry names a place, all windows agree.
 -- Assumes nothing.
 use Prim.Native.Nat.{ℕ, _+_, _-_, _≤_, _<_}
 use mathlib.Core.Path.{_≡_, refl, sym, _∙_, ap₂}
@@ -17,7 +17,7 @@ use Rattle.order.specs.Duels.{duel}
 use Rattle.duels.specs.DuelPromise.{tellsWitness, byEntries, meetsBy}
 use Rattle.duels.specs.Inside.Asked.{Duelable}
 use Rattle.duels.specs.Inside.Codes.{NoneBelow}
-use Rattle.duels.specs.Inside.Stacks.{Beside}
+use Rattle.duels.specs.Inside.Stacks.{AllAgree}
 use Rattle.duels.proofs.CodeLaws.{witness-told}
 
 module _ (P : List ℤ) (wi wj : List ℕ) (T : List ℤ) (x y : ℕ) where
@@ -43,14 +43,11 @@ duelable P T y a i j e p q h g =
     let v = w .1 in
     record { i-inside = omega arith; j-inside = omega arith; i-reach = omega arith; j-reach = omega arith; differs = rw (p, q) (w .2) }
 
--- ---- windows beside each other
+-- ---- no witness at all
 
-pub none-beside : (P : List ℤ) (wi wj : List ℕ) (T : List ℤ) → NoneBelow wi (length P) → Beside (meetsBy P wi wj T)
-none-beside P wi wj T n = record { agreeing = λ x. go x (leb (length P) 1) refl }
+pub none-apart : (P : List ℤ) (wi wj : List ℕ) (T : List ℤ) → NoneBelow wi (length P) → AllAgree (meetsBy P wi wj T)
+none-apart P wi wj T n = record { agreeing = λ x y. go x y (leb (length P) (y - x)) refl }
   where
-    go : (x : ℕ) (t : Bool) → leb (length P) 1 ≡ t → meetsBy P wi wj T x (x + 1) ≡ Agree
-    go x true e = let h : length P ≤ 1 = leb-true (length P) 1 e in far-agree P wi wj T x (x + 1) (omega arith)
-    go x false e =
-        let h : 1 < length P = leb-false (length P) 1 e in
-        let one : x + 1 - x ≡ 1 = omega arith in
-        none-agree P wi wj T x (x + 1) (omega arith) (rw one (n .none 1 h))
+    go : (x y : ℕ) (t : Bool) → leb (length P) (y - x) ≡ t → meetsBy P wi wj T x y ≡ Agree
+    go x y true e = far-agree P wi wj T x y (leb-true (length P) (y - x) e)
+    go x y false e = let h : y - x < length P = leb-false (length P) (y - x) e in none-agree P wi wj T x y h (n .none (y - x) h)

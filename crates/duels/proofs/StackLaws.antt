@@ -1,27 +1,25 @@
--- Shows: the survivors buffer is the rules' stack at every step of the duels, over any outcome of meetings: what a look at its top leaves,
--- what an arrival leaves, and that it holds the stack when all windows have arrived; where each window agrees with the next, all do.
+-- Shows: the survivors buffer is the rules' stack at every step of the duels, over any outcome of meetings and any choice of the windows that
+-- arrive: what a look at its top leaves, what an arrival leaves, a window that does not arrive, and a run of windows that all agree.
 -- Assumes nothing.
 use Prim.Native.Nat.{ℕ, zero, suc, _+_, _-_, _≤_, _<_}
 use mathlib.Core.Path.{_≡_, refl, sym, _∙_, ap, ap₂, subst}
 use mathlib.Core.Logic.{⊎-elim}
-use mathlib.Core.List.{List, [], _∷_, _++_, reverse, List·Memᴰ, List·Memᴰ·head, List·Memᴰ·tail}
-use mathlib.Core.Bool.{true}
+use mathlib.Core.List.{List, [], _∷_, _++_, reverse, append-nil, List·Memᴰ, List·Memᴰ·head, List·Memᴰ·tail}
+use mathlib.Core.Bool.{Bool, true, false, cond}
 use native.Mathlib.Omega.{arith}
 use native.Mathlib.Numerals.{add-one}
 use native.Mathlib.Nat.{eq-or-lt-of-le, le-of-suc-le-suc}
-use lib.IntN.{ℤ}
-use lib.ListN.{length, getD, take, drop, set, length-set}
+use lib.ListN.{length, getD, take, set, length-set, length-append}
 use lib.Seq.{getD-set-same, getD-set-other, drop-set-lt, take-suc}
 use Rattle.order.specs.declared.steps.Meeting.{Meeting}
 use Rattle.order.specs.declared.steps.Meeting.the-variants.{Agree, OlderFalls, NewerFalls, BothFall}
-use Rattle.order.specs.Sizes.{those, windowsOf}
-use Rattle.order.specs.Duels.{Stack, stacked, after, arrive, arriveAll, entrants}
-use Rattle.order.proofs.Lists.{reverse-cons, those-suc}
+use Rattle.order.specs.Sizes.{those}
+use Rattle.order.specs.Duels.{Stack, stacked, after, arrive, arriveAll}
+use Rattle.order.proofs.Lists.{reverse-cons, those-suc, length-those}
 use Rattle.order.proofs.Dueling.{any-fair, ended, arrive-append}
 use Rattle.duels.specs.declared.arrivals.Arrival.{Arrival}
 use Rattle.duels.specs.declared.arrivals.Arrival.the-variants.{Pushed, Dropped}
-use Rattle.duels.specs.DuelPromise.{meetsBy, stackBy}
-use Rattle.duels.specs.Inside.Stacks.{top, Beside, DuelsOf}
+use Rattle.duels.specs.Inside.Stacks.{top, pushedRun, Standing, SameBehind, AllAgree}
 
 -- ---- a buffer as a stack
 
@@ -88,12 +86,12 @@ module _ (meet : ℕ → ℕ → Meeting) (l : List ℕ) (y k d : ℕ) where
 
 -- ---- one arrival
 
--- of the y windows before it k₀ are kept and b₀ fell together with another, so y - k₀ - b₀ duels were fought. Window y has looked at the
--- entries from k to k₀, and struck each
-pub record Looking (meet : ℕ → ℕ → Meeting) (l : List ℕ) (y k₀ b₀ k : ℕ) : Type 0 where
+-- of the a windows that arrived before it k₀ are kept and b₀ fell together with another, so a - k₀ - b₀ duels were fought. Window y has
+-- looked at the entries from k to k₀, and struck each
+pub record Looking (meet : ℕ → ℕ → Meeting) (l : List ℕ) (y a k₀ b₀ k : ℕ) : Type 0 where
   pub fewer : k ≤ k₀
-  pub count : k₀ + b₀ ≤ y
-  pub same : arrive meet y (top l k₀) (y - k₀ - b₀) ≡ arrive meet y (top l k) (y - k - b₀)
+  pub count : k₀ + b₀ ≤ a
+  pub same : arrive meet y (top l k₀) (a - k₀ - b₀) ≡ arrive meet y (top l k) (a - k - b₀)
 
 -- the stack with the window, or without it
 abbrev onto : Arrival → ℕ → List ℕ → List ℕ
@@ -105,185 +103,234 @@ pushes Pushed = 1
 pushes Dropped = 0
 
 -- it has settled
-pub record Settled (meet : ℕ → ℕ → Meeting) (l : List ℕ) (y k₀ b₀ k b : ℕ) (a : Arrival) : Type 0 where
+pub record Settled (meet : ℕ → ℕ → Meeting) (l : List ℕ) (y a k₀ b₀ k b : ℕ) (end : Arrival) : Type 0 where
   pub fewer : k ≤ k₀
-  pub count : k + pushes a + b ≤ y + 1
-  pub same : arrive meet y (top l k₀) (y - k₀ - b₀) ≡ stacked (onto a y (top l k)) (y + 1 - (k + pushes a) - b)
+  pub count : k + pushes end + b ≤ a + 1
+  pub same : arrive meet y (top l k₀) (a - k₀ - b₀) ≡ stacked (onto end y (top l k)) (a + 1 - (k + pushes end) - b)
 
-module _ {meet : ℕ → ℕ → Meeting} {l : List ℕ} {y k₀ b₀ k : ℕ} where
+module _ {meet : ℕ → ℕ → Meeting} {l : List ℕ} {y a k₀ b₀ k : ℕ} where
   -- an empty stack
-  pub settle-empty : Looking meet l y k₀ b₀ k → k ≡ 0 → Settled meet l y k₀ b₀ k b₀ Pushed
+  pub settle-empty : Looking meet l y a k₀ b₀ k → k ≡ 0 → Settled meet l y a k₀ b₀ k b₀ Pushed
   unfolding arrive
   settle-empty i e =
       let c = i .count in
       let f = i .fewer in
-      let fought : y - k - b₀ ≡ y + 1 - (k + 1) - b₀ = omega arith in
+      let fought : a - k - b₀ ≡ a + 1 - (k + 1) - b₀ = omega arith in
       record {
         fewer = f;
         count = omega arith;
         same = i .same ∙ ap (arrive meet y (top l k)) fought ∙ rw (e, top-zero l) refl;
       }
 
-module _ {meet : ℕ → ℕ → Meeting} {l : List ℕ} {y k₀ b₀ k x : ℕ} (i : Looking meet l y k₀ b₀ k) (some : k ≡ 0 → ⊥) (ex : x ≡ getD l (k - 1) 0) where
+module _ {meet : ℕ → ℕ → Meeting} {l : List ℕ} {y a k₀ b₀ k x : ℕ} (i : Looking meet l y a k₀ b₀ k) (some : k ≡ 0 → ⊥) (ex : x ≡ getD l (k - 1) 0) where
   more : k ≡ k - 1 + 1
   more = omega arith
 
   -- as it looks at the top
-  at-top : arrive meet y (top l k₀) (y - k₀ - b₀) ≡ arrive meet y (top l (k - 1 + 1)) (y - k - b₀)
-  at-top = i .same ∙ ap (λ n. arrive meet y (top l n) (y - k - b₀)) more
+  at-top : arrive meet y (top l k₀) (a - k₀ - b₀) ≡ arrive meet y (top l (k - 1 + 1)) (a - k - b₀)
+  at-top = i .same ∙ ap (λ n. arrive meet y (top l n) (a - k - b₀)) more
 
-  pub look-again : meet x y ≡ OlderFalls → Looking meet l y k₀ b₀ (k - 1)
+  pub look-again : meet x y ≡ OlderFalls → Looking meet l y a k₀ b₀ (k - 1)
   look-again e =
       let c = i .count in
       let f = i .fewer in
-      let fought : y - k - b₀ + 1 ≡ y - (k - 1) - b₀ = omega arith in
+      let fought : a - k - b₀ + 1 ≡ a - (k - 1) - b₀ = omega arith in
       record {
         fewer = omega arith;
         count = c;
-        same = at-top ∙ look-older meet l y (k - 1) (y - k - b₀) (rw ex at e) ∙ ap (arrive meet y (top l (k - 1))) fought;
+        same = at-top ∙ look-older meet l y (k - 1) (a - k - b₀) (rw ex at e) ∙ ap (arrive meet y (top l (k - 1))) fought;
       }
 
-  pub settle-agree : meet x y ≡ Agree → Settled meet l y k₀ b₀ k b₀ Pushed
+  pub settle-agree : meet x y ≡ Agree → Settled meet l y a k₀ b₀ k b₀ Pushed
   settle-agree e =
       let c = i .count in
       let f = i .fewer in
-      let fought : y - k - b₀ ≡ y + 1 - (k + 1) - b₀ = omega arith in
+      let fought : a - k - b₀ ≡ a + 1 - (k + 1) - b₀ = omega arith in
       record {
         fewer = f;
         count = omega arith;
-        same = at-top ∙ look-agree meet l y (k - 1) (y - k - b₀) (rw ex at e) ∙ ap₂ (λ n d. stacked (y ∷ top l n) d) (sym more) fought;
+        same = at-top ∙ look-agree meet l y (k - 1) (a - k - b₀) (rw ex at e) ∙ ap₂ (λ n d. stacked (y ∷ top l n) d) (sym more) fought;
       }
 
-  pub settle-newer : meet x y ≡ NewerFalls → Settled meet l y k₀ b₀ k b₀ Dropped
+  pub settle-newer : meet x y ≡ NewerFalls → Settled meet l y a k₀ b₀ k b₀ Dropped
   settle-newer e =
       let c = i .count in
       let f = i .fewer in
-      let fought : y - k - b₀ + 1 ≡ y + 1 - (k + 0) - b₀ = omega arith in
+      let fought : a - k - b₀ + 1 ≡ a + 1 - (k + 0) - b₀ = omega arith in
       record {
         fewer = f;
         count = omega arith;
-        same = at-top ∙ look-newer meet l y (k - 1) (y - k - b₀) (rw ex at e) ∙ ap₂ (λ n d. stacked (top l n) d) (sym more) fought;
+        same = at-top ∙ look-newer meet l y (k - 1) (a - k - b₀) (rw ex at e) ∙ ap₂ (λ n d. stacked (top l n) d) (sym more) fought;
       }
 
-  pub settle-both : meet x y ≡ BothFall → Settled meet l y k₀ b₀ (k - 1) (b₀ + 1) Dropped
+  pub settle-both : meet x y ≡ BothFall → Settled meet l y a k₀ b₀ (k - 1) (b₀ + 1) Dropped
   settle-both e =
       let c = i .count in
       let f = i .fewer in
-      let fought : y - k - b₀ + 1 ≡ y + 1 - (k - 1 + 0) - (b₀ + 1) = omega arith in
+      let fought : a - k - b₀ + 1 ≡ a + 1 - (k - 1 + 0) - (b₀ + 1) = omega arith in
       record {
         fewer = omega arith;
         count = omega arith;
-        same = at-top ∙ look-both meet l y (k - 1) (y - k - b₀) (rw ex at e) ∙ ap (stacked (top l (k - 1))) fought;
+        same = at-top ∙ look-both meet l y (k - 1) (a - k - b₀) (rw ex at e) ∙ ap (stacked (top l (k - 1))) fought;
       }
+
+-- the same under other names of its numbers
+pub settled-as : {meet : ℕ → ℕ → Meeting} {l : List ℕ} {y a k₀ b₀ k b k' b' : ℕ} {end end' : Arrival} → k ≡ k' → b ≡ b' → end ≡ end' → Settled meet l y a k₀ b₀ k' b' end' → Settled meet l y a k₀ b₀ k b end
+settled-as e f g s = rw (e, f, g) s
 
 -- ---- all arrivals
 
--- the rules' stack when the windows below n have arrived
-pub arrivedTo : (ℕ → ℕ → Meeting) → ℕ → Stack
-arrivedTo meet n = arriveAll meet (those (λ x. true) n) (stacked [] 0)
+those-next : (q : ℕ → Bool) (y : ℕ) {t : Bool} → q y ≡ t → those q (y + 1) ≡ those q y ++ cond t (y ∷ []) []
+those-next q y e = ap (those q) (add-one y) ∙ those-suc q y ∙ ap (λ t. those q y ++ cond t (y ∷ []) []) e
 
-arrived-more : (meet : ℕ → ℕ → Meeting) (n : ℕ) → arrivedTo meet (n + 1) ≡ arrive meet n (arrivedTo meet n .kept) (arrivedTo meet n .fought)
-unfolding arrivedTo arriveAll
-arrived-more meet n = rw (add-one, those-suc) (arrive-append (any-fair meet) (those (λ x. true) n) (n ∷ []) (stacked [] 0))
+pub at-first : (meet : ℕ → ℕ → Meeting) (q : ℕ → Bool) (l : List ℕ) → Standing meet q l 0 0 0 0
+unfolding those arriveAll
+at-first meet q l = record { number = refl; count = omega arith; stack = ap (λ xs. stacked xs 0) (sym (top-zero l)) }
 
--- the buffer after the windows below y, of which k are kept and b fell together with another
-pub record Standing (meet : ℕ → ℕ → Meeting) (windows : ℕ) (before l : List ℕ) (k b y : ℕ) : Type 0 where
-  pub within : y ≤ windows
-  pub count : k + b ≤ y
-  pub long : length l ≡ length before
-  pub beyond : drop windows l ≡ drop windows before
-  pub stack : arrivedTo meet y ≡ stacked (top l k) (y - k - b)
+module _ {meet : ℕ → ℕ → Meeting} {q : ℕ → Bool} {l : List ℕ} {y a k₀ b₀ : ℕ} (s : Standing meet q l y a k₀ b₀) where
+  -- no more have arrived than start before y
+  pub few-arrived : a ≤ y
+  few-arrived = let n = length-those q y in let e = s .number in omega arith
 
-pub at-first : (meet : ℕ → ℕ → Meeting) (windows : ℕ) (l : List ℕ) → Standing meet windows l l 0 0 0
-unfolding arrivedTo those arriveAll
-at-first meet windows l =
-    record { within = omega arith; count = omega arith; long = refl; beyond = refl; stack = ap (λ xs. stacked xs 0) (sym (top-zero l)) }
-
-module _ {meet : ℕ → ℕ → Meeting} {windows : ℕ} {before l : List ℕ} {k₀ b₀ y : ℕ} (s : Standing meet windows before l k₀ b₀ y) where
   -- the windows kept start before y
   pub kept-below : (i : ℕ) → i < k₀ → getD l i 0 < y
-  unfolding arrivedTo
   kept-below i h =
-      ended (any-fair meet) (λ x. true) y .below (getD l i 0)
+      ended (any-fair meet) q y .below (getD l i 0)
       (subst (λ (t : Stack). List·Memᴰ (getD l i 0) (t .kept)) (sym (s .stack)) (mem-top l k₀ i h))
 
-  pub looking : Looking meet l y k₀ b₀ k₀
+  pub looking : Looking meet l y a k₀ b₀ k₀
   looking = record { fewer = omega arith; count = s .count; same = refl }
 
-  arrives : {a : Arrival} {k b : ℕ} → Settled meet l y k₀ b₀ k b a → arrivedTo meet (y + 1) ≡ stacked (onto a y (top l k)) (y + 1 - (k + pushes a) - b)
-  arrives t = arrived-more meet y ∙ rw (s .stack) (t .same)
+  -- the same under other names of its numbers
+  pub standing-as : {y' a' k' b' : ℕ} → y ≡ y' → a ≡ a' → k₀ ≡ k' → b₀ ≡ b' → Standing meet q l y' a' k' b'
+  standing-as e f g h = rw (← e, ← f, ← g, ← h) s
 
-  pub dropped-next : {k b : ℕ} → y < windows → Settled meet l y k₀ b₀ k b Dropped → Standing meet windows before l k b (y + 1)
-  dropped-next {k} {b} h t =
-      let c = t .count in
-      let none : k + 0 ≡ k = omega arith in
+  -- a window that does not arrive
+  pub skipped : q y ≡ false → Standing meet q l (y + 1) a k₀ b₀
+  skipped e =
+      let same : those q (y + 1) ≡ those q y = those-next q y e ∙ append-nil (those q y) in
+      record { number = s .number ∙ ap length (sym same); count = s .count; stack = ap (λ xs. arriveAll meet xs (stacked [] 0)) same ∙ s .stack }
+
+  module _ (e : q y ≡ true) where
+    one-more : a + 1 ≡ length (those q (y + 1))
+    one-more =
+        let n = s .number in
+        let m = length-append (those q y) (y ∷ []) in
+        rw (those-next q y e) (omega arith)
+
+    arrives : {end : Arrival} {k b : ℕ} → Settled meet l y a k₀ b₀ k b end → arriveAll meet (those q (y + 1)) (stacked [] 0) ≡ stacked (onto end y (top l k)) (a + 1 - (k + pushes end) - b)
+    unfolding arriveAll
+    arrives t =
+        ap (λ xs. arriveAll meet xs (stacked [] 0)) (those-next q y e) ∙ arrive-append (any-fair meet) (those q y) (y ∷ []) (stacked [] 0) ∙ ap (λ (u : Stack). arrive meet y (u .kept) (u .fought)) (s .stack) ∙ t .same
+
+    pub dropped-next : {k b : ℕ} → Settled meet l y a k₀ b₀ k b Dropped → Standing meet q l (y + 1) (a + 1) k b
+    dropped-next {k} {b} t =
+        let c = t .count in
+        let none : k + 0 ≡ k = omega arith in
+        record { number = one-more; count = omega arith; stack = arrives t ∙ ap (λ n. stacked (top l k) (a + 1 - n - b)) none }
+
+    pub pushed-next : {k b : ℕ} → k < length l → Settled meet l y a k₀ b₀ k b Pushed → Standing meet q (set l k y) (y + 1) (a + 1) (k + 1) b
+    pushed-next {k} {b} h t =
+        let c = t .count in
+        record { number = one-more; count = omega arith; stack = arrives t ∙ ap (λ xs. stacked xs (a + 1 - (k + 1) - b)) (sym (top-push l k y h)) }
+
+-- some windows that do not arrive
+skipped-some : {meet : ℕ → ℕ → Meeting} {q : ℕ → Bool} {l : List ℕ} {y a k b : ℕ} → Standing meet q l y a k b → (n : ℕ) → ((x : ℕ) → y ≤ x → x < y + n → q x ≡ false) → Standing meet q l (y + n) a k b
+skipped-some {y = y} s zero f = standing-as s (omega arith) refl refl refl
+skipped-some {y = y} s (suc n) f =
+    standing-as (skipped (skipped-some s n (λ x h g. f x h (omega arith))) (f (y + n) (omega arith) (omega arith))) (omega arith) refl refl refl
+
+pub skipped-to : {meet : ℕ → ℕ → Meeting} {q : ℕ → Bool} {l : List ℕ} {y a k b : ℕ} → Standing meet q l y a k b → (z : ℕ) → y ≤ z → ((x : ℕ) → y ≤ x → x < z → q x ≡ false) → Standing meet q l z a k b
+skipped-to {y = y} s z h f = standing-as (skipped-some s (z - y) (λ x g i. f x g (omega arith))) (omega arith) refl refl refl
+
+-- ---- a run of windows that all agree
+
+module _ {meet : ℕ → ℕ → Meeting} (all : AllAgree meet) where
+  settle-pushed : {q : ℕ → Bool} {l : List ℕ} {y a b : ℕ} (k : ℕ) → Standing meet q l y a k b → Settled meet l y a k b k b Pushed
+  settle-pushed zero s = settle-empty (looking s) refl
+  settle-pushed {l = l} {y} (suc k) s = settle-agree (looking s) (λ e. omega arith) refl (all .agreeing (getD l (suc k - 1) 0) y)
+
+pub run-none : (l : List ℕ) (k x : ℕ) → pushedRun l k x 0 ≡ l
+unfolding pushedRun
+run-none l k x = refl
+
+pub run-more : (l : List ℕ) (k x n : ℕ) → pushedRun l k x (n + 1) ≡ set (pushedRun l k x n) (k + n) (x + n)
+unfolding pushedRun
+run-more l k x n = rw add-one refl
+
+-- from the first entry and the first window on
+pub all-more : (l : List ℕ) (n : ℕ) → pushedRun l 0 0 (n + 1) ≡ set (pushedRun l 0 0 n) n n
+all-more l n = let same : 0 + n ≡ n = omega arith in run-more l 0 0 n ∙ ap (λ k. set (pushedRun l 0 0 n) k k) same
+
+pub length-run : (l : List ℕ) (k x n : ℕ) → length (pushedRun l k x n) ≡ length l
+unfolding pushedRun
+length-run l k x zero = refl
+length-run l k x (suc n) = length-set (pushedRun l k x n) (k + n) (x + n) ∙ length-run l k x n
+
+pub run-kept : {meet : ℕ → ℕ → Meeting} → AllAgree meet → {q : ℕ → Bool} {l : List ℕ} {y a k b : ℕ} → Standing meet q l y a k b → (n : ℕ) → ((x : ℕ) → y ≤ x → x < y + n → q x ≡ true)
+    → k + n ≤ length l → Standing meet q (pushedRun l k y n) (y + n) (a + n) (k + n) b
+unfolding pushedRun
+run-kept all s zero f h = standing-as s (omega arith) (omega arith) (omega arith) refl
+run-kept all {l = l} {y} {a} {k} s (suc n) f h =
+    let t = run-kept all s n (λ x g i. f x g (omega arith)) (omega arith) in
+    let long = length-run l k y n in
+    standing-as (pushed-next t (f (y + n) (omega arith) (omega arith)) (omega arith) (settle-pushed all (k + n) t)) (omega arith) (omega arith) (omega arith) refl
+
+pub run-written : {meet : ℕ → ℕ → Meeting} → AllAgree meet → {q : ℕ → Bool} {l l' : List ℕ} {from past a k b : ℕ} → Standing meet q l from a k b → from ≤ past → ((x : ℕ) → from ≤ x → x < past → q x ≡ true)
+    → k + (past - from) ≤ length l → l' ≡ pushedRun l k from (past - from) → Standing meet q l' past (a + (past - from)) (k + (past - from)) b
+run-written all {from = from} {past} s h f room e =
+    rw e (standing-as (run-kept all s (past - from) (λ x g i. f x g (omega arith)) room) (omega arith) refl refl refl)
+
+-- ---- the entries behind all windows
+
+pub same-first : (n : ℕ) (l : List ℕ) → SameBehind n l l
+same-first n l = record { beyond = refl; same-length = refl }
+
+pub same-then : {n : ℕ} {l l' l'' : List ℕ} → SameBehind n l l' → SameBehind n l' l'' → SameBehind n l l''
+same-then s t = record { beyond = t .beyond ∙ s .beyond; same-length = t .same-length ∙ s .same-length }
+
+pub same-set : {n : ℕ} {l l' : List ℕ} (k v : ℕ) → k < n → SameBehind n l l' → SameBehind n l (set l' k v)
+same-set {n} {l' = l'} k v h s = record { beyond = drop-set-lt n l' k v h ∙ s .beyond; same-length = length-set l' k v ∙ s .same-length }
+
+pub same-run : {n : ℕ} (l : List ℕ) (k x c : ℕ) → k + c ≤ n → SameBehind n l (pushedRun l k x c)
+unfolding pushedRun
+same-run {n} l k x zero h = same-first n l
+same-run l k x (suc c) h = same-set (k + c) (x + c) (omega arith) (same-run l k x c (omega arith))
+
+-- ---- one window after the other of a run
+
+-- the windows from `from` up to y have arrived, on the stack that a₀ windows before them left; n is the number of all windows
+pub record Running (meet : ℕ → ℕ → Meeting) (q : ℕ → Bool) (n from past : ℕ) (before l : List ℕ) (a₀ k b y : ℕ) : Type 0 where
+  pub begun : from ≤ y
+  pub within : y ≤ past
+  pub standing : Standing meet q l y (a₀ + (y - from)) k b
+  pub behind : SameBehind n before l
+
+pub run-begun : {meet : ℕ → ℕ → Meeting} {q : ℕ → Bool} {l : List ℕ} {from a₀ k b : ℕ} (n past : ℕ) → from ≤ past → Standing meet q l from a₀ k b → Running meet q n from past l l a₀ k b from
+run-begun {l = l} n past h s = record { begun = omega arith; within = h; standing = standing-as s refl (omega arith) refl refl; behind = same-first n l }
+
+module _ {meet : ℕ → ℕ → Meeting} {q : ℕ → Bool} {n from past : ℕ} {before l : List ℕ} {a₀ k₀ b₀ y : ℕ} (r : Running meet q n from past before l a₀ k₀ b₀ y) (h : y < past) (e : q y ≡ true) where
+  pub run-dropped : {k b : ℕ} → Settled meet l y (a₀ + (y - from)) k₀ b₀ k b Dropped → Running meet q n from past before l a₀ k b (y + 1)
+  run-dropped t =
+      let f = r .begun in
+      record { begun = omega arith; within = omega arith; standing = standing-as (dropped-next (r .standing) e t) refl (omega arith) refl refl; behind = r .behind }
+
+  pub run-pushed : {k b : ℕ} → past ≤ n → n ≤ length before → Settled meet l y (a₀ + (y - from)) k₀ b₀ k b Pushed → Running meet q n from past before (set l k y) a₀ (k + 1) b (y + 1)
+  run-pushed {k} inside room t =
+      let f = r .begun in
+      let c = r .standing .count in
+      let w = few-arrived (r .standing) in
+      let fewer = t .fewer in
+      let long = r .behind .same-length in
       record {
+        begun = omega arith;
         within = omega arith;
-        count = omega arith;
-        long = s .long;
-        beyond = s .beyond;
-        stack = arrives t ∙ ap (λ n. stacked (top l k) (y + 1 - n - b)) none;
+        standing = standing-as (pushed-next (r .standing) e (omega arith) t) refl (omega arith) refl refl;
+        behind = same-set k y (omega arith) (r .behind);
       }
 
-  pub pushed-next : {k b : ℕ} → y < windows → windows ≤ length before → Settled meet l y k₀ b₀ k b Pushed → Standing meet windows before (set l k y) (k + 1) b (y + 1)
-  pushed-next {k} {b} h room t =
-      let c = t .count in let d = s .count in let f = t .fewer in
-      let small : k < windows = omega arith in
-      let in-buffer : k < length l = rw (s .long) (omega arith) in
-      record {
-        within = omega arith;
-        count = omega arith;
-        long = length-set l k y ∙ s .long;
-        beyond = drop-set-lt windows l k y small ∙ s .beyond;
-        stack = arrives t ∙ ap (λ xs. stacked xs (y + 1 - (k + 1) - b)) (sym (top-push l k y in-buffer));
-      }
-
--- at the end
-pub all-arrived : {P : List ℤ} {wi wj : List ℕ} {T : List ℤ} {windows : ℕ} {before l : List ℕ} {k b y : ℕ} → Standing (meetsBy P wi wj T) windows before l k b y → windows ≤ y
-    → windows ≡ windowsOf (length P) (length T) → DuelsOf P wi wj T windows before l k (windows - k - b)
-unfolding arrivedTo stackBy entrants
-all-arrived {P} {T = T} {windows} {l = l} {k} {b} {y} s h e =
-    let w = s .within in
-    let c = s .count in
-    let same : windowsOf (length P) (length T) ≡ y = omega arith in
-    let end : y ≡ windows = omega arith in
-    record { result = rw same (s .stack) ∙ ap (λ n. stacked (top l k) (n - k - b)) end; count = omega arith; beyond = s .beyond; same-length = s .long }
-
--- ---- arrivals with no duel
-
--- the windows below y have arrived and all are kept, so the one on top starts a sample before y
-pub record AllKept (meet : ℕ → ℕ → Meeting) (windows : ℕ) (before l : List ℕ) (y : ℕ) : Type 0 where
-  pub standing : Standing meet windows before l y 0 y
-  pub last : 0 < y → getD l (y - 1) 0 ≡ y - 1
-
-pub none-yet : (meet : ℕ → ℕ → Meeting) (windows : ℕ) (l : List ℕ) → AllKept meet windows l l 0
-none-yet meet windows l = record { standing = at-first meet windows l; last = λ h. absurd (omega arith) }
-
-module _ {meet : ℕ → ℕ → Meeting} {windows : ℕ} {before l : List ℕ} (side : Beside meet) where
-  settle-side : (y : ℕ) → AllKept meet windows before l y → Settled meet l y y 0 y 0 Pushed
-  settle-side zero k = settle-empty (looking (k .standing)) refl
-  settle-side (suc n) k =
-      settle-agree {x = n} (looking (k .standing)) (λ e. omega arith) (let e = k .last (omega arith) in omega arith) (rw add-one at (side .agreeing n))
-
-  pub one-kept : {y : ℕ} → AllKept meet windows before l y → y < windows → windows ≤ length before → AllKept meet windows before (set l y y) (y + 1)
-  one-kept {y} k h room =
-      let long = k .standing .long in
-      let in-buffer : y < length l = omega arith in
-      let same : y + 1 - 1 ≡ y = omega arith in
-      record {
-        standing = pushed-next (k .standing) h room (settle-side y k);
-        last = λ p. rw same (getD-set-same l y y 0 in-buffer);
-      }
-
-pub all-kept : {P : List ℤ} {wi wj : List ℕ} {T : List ℤ} {windows : ℕ} {before l : List ℕ} {y : ℕ} → AllKept (meetsBy P wi wj T) windows before l y → windows ≤ y
-    → windows ≡ windowsOf (length P) (length T) → DuelsOf P wi wj T windows before l windows 0
-all-kept {P} {wi} {wj} {T} {windows} {before} {l} {y} k h e =
-    let w = k .standing .within in
-    let same : y ≡ windows = omega arith in
-    let fought : windows - windows - 0 ≡ 0 = omega arith in
-    subst (λ (d : ℕ). DuelsOf P wi wj T windows before l windows d) fought
-    (subst (λ (n : ℕ). DuelsOf P wi wj T windows before l n (windows - n - 0)) same (all-arrived (k .standing) h e))
-
--- the same under other names of its numbers
-pub settled-as : {meet : ℕ → ℕ → Meeting} {l : List ℕ} {y k₀ b₀ k b k' b' : ℕ} {a a' : Arrival} → k ≡ k' → b ≡ b' → a ≡ a' → Settled meet l y k₀ b₀ k' b' a' → Settled meet l y k₀ b₀ k b a
-settled-as e f g s = rw (e, f, g) s
+pub run-ended : {meet : ℕ → ℕ → Meeting} {q : ℕ → Bool} {n from past : ℕ} {before l : List ℕ} {a₀ k b y : ℕ} → Running meet q n from past before l a₀ k b y → past ≤ y → Standing meet q l past (a₀ + (past - from)) k b
+run-ended {past = past} {y = y} r h =
+    let w = r .within in
+    let end : y ≡ past = omega arith in
+    standing-as (r .standing) end (omega arith) refl refl

@@ -11,7 +11,7 @@ use Rattle.order.specs.declared.steps.Meeting.the-variants.{Agree}
 use Rattle.order.specs.declared.refusal.Refusal.the-variants.{LongTrace, ShortSurvivors}
 use Rattle.order.specs.Sizes.{Spot, none, place, at, noPlace, lowest, traceLimit, windowsOf}
 use Rattle.order.specs.Relations.{rel, alike}
-use Rattle.order.specs.Duels.{duel, Stack, stacked, arriveAll, entrants}
+use Rattle.order.specs.Duels.{duel, Stack, stacked, arriveAll, struck, entrants}
 use Rattle.order.specs.Refusals.{Verdict, accepted, refused, refuse, numberOf, placeOf, verdictNumber, verdictPlace, patternVerdict, witnessesVerdict}
 use Rattle.order.specs.Written.{over, filled}
 use Rattle.duels.specs.declared.answers.Duelled.{Duelled}
@@ -36,7 +36,7 @@ byEntries P T y a i j = cond (eqb i noPlace) Agree (duel P T y a i j)
 unfoldable pub meetsBy : List ℤ → List ℕ → List ℕ → List ℤ → ℕ → ℕ → Meeting
 meetsBy P wi wj T x y = cond (leb (length P) (y - x)) Agree (byEntries P T y (y - x) (getD wi (y - x) 0) (getD wj (y - x) 0))
 
--- the rules' stack after all windows have arrived, by these meetings
+-- the rules' stack after all windows that take part have arrived, by these meetings
 unfoldable pub stackBy : List ℤ → List ℕ → List ℕ → List ℤ → Stack
 stackBy P wi wj T = arriveAll (meetsBy P wi wj T) (entrants P T) (stacked [] 0)
 
@@ -70,18 +70,18 @@ afterDuels (Done d) l before = over l before
 afterDuels (Refused r) l before = before
 afterDuels (Untold a) l before = before
 
--- how many are kept, and how many duels were fought
-abbrev pub duelledOf : Stack → Duelled
-duelledOf s = record { kept = length (s .kept); fought = s .fought }
+-- how many are kept, how many duels were fought, and how many windows were struck before them
+abbrev pub duelledOf : Stack → ℕ → Duelled
+duelledOf s n = record { kept = length (s .kept); fought = s .fought; struck = n }
 
--- the duels of all windows of the trace T by the witness tables wi and wj of the pattern P, on a stack in a buffer that holds `before`:
+-- the duels of the windows of the trace T by the witness tables wi and wj of the pattern P, on a stack in a buffer that holds `before`:
 -- the answer r, and what the buffer holds after it
 pub record DuelPromise (P : List ℤ) (wi wj : List ℕ) (T : List ℤ) (before : List ℕ) (r : Duels) (after : List ℕ) : Type 0 where
   pub number : duelsNumber r ≡ verdictNumber (duelVerdict (length P) (length wi) (length wj) (length T) (length before))
   pub place : duelsPlace r ≡ verdictPlace (duelVerdict (length P) (length wi) (length wj) (length T) (length before))
   pub answer : r
-      ≡ duelsBy (duelVerdict (length P) (length wi) (length wj) (length T) (length before)) (lowest (untoldAt P wi wj) (length P)) (duelledOf (stackBy P wi wj T))
+      ≡ duelsBy (duelVerdict (length P) (length wi) (length wj) (length T) (length before)) (lowest (untoldAt P wi wj) (length P)) (duelledOf (stackBy P wi wj T) (struck P T))
   -- the kept windows, the first at entry 0, then "unused" up to entry N − 1, then what it held; as it was if nothing was fought
   pub survivors-after : after ≡ afterDuels r (filled (reverse (stackBy P wi wj T .kept)) (windowsOf (length P) (length T))) before
-  -- each duel drops a window
-  pub bound : (d : Duelled) → r ≡ Done d → d .fought + d .kept ≤ windowsOf (length P) (length T)
+  -- each duel drops a window, and what was struck fights none
+  pub bound : (d : Duelled) → r ≡ Done d → d .fought + d .kept + d .struck ≤ windowsOf (length P) (length T)

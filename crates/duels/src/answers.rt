@@ -3,10 +3,11 @@
 
 use order::Refusal;
 
-// How many windows are kept, and how many duels were fought.
+// How many windows are kept, how many duels were fought, and how many windows were struck before them.
 pub struct Duelled {
     pub kept: usize,
     pub fought: u32,
+    pub struck: u32,
 }
 
 // What was fought, or why nothing was.

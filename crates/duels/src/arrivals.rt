@@ -1,11 +1,12 @@
-// Every window of the trace arrives in order and duels with the top of a stack of kept windows until the two agree or it falls.
+// A run of windows, none of which holds a lost stitch, arrives in order. Each window duels with the top of a stack of kept windows until the
+// two agree or it falls.
 //
 // Follows docs/RULES.md, "Duels" (Jargalsaikhan 2022, section 3, counted from zero). A duel is one comparison of the trace. The stack is the
-// survivors buffer itself. Where each window agrees with the one before it there are no duels, and a window costs a store. Callers
-// hand over a buffer with room for every window, and how the pattern compares at each witness (codes.rt).
+// survivors buffer itself. Where all windows agree there are no duels, and a window costs a store. Callers hand over a buffer with room
+// for every window, and how the pattern compares at each witness (codes.rt).
 
-use crate::answers::Duelled;
 use crate::codes::code_at;
+use order::LOST;
 use order::Meeting;
 use order::NONE;
 use order::Offset;
@@ -14,12 +15,22 @@ use order::Window;
 use words::wide16;
 use words::wide32;
 ghost use mathlib.Core.Path.{_≡_};
+ghost use mathlib.Core.Bool.{false};
 ghost use lib.ListN.{length};
+ghost use Prim.Native.Nat.{_+_, _-_, _≤_};
+ghost use Rattle.order.specs.Sizes.{traceLimit, windowsOf};
 ghost use Rattle.order.specs.Duels.{duel as duelOf};
 ghost use Rattle.duels.specs.DuelPromise.{meetsBy};
 ghost use Rattle.duels.specs.Inside.Codes.{ownCode, Coded};
-ghost use Rattle.duels.specs.Inside.Asked.{Duelable, Meetable, Arriving};
-ghost use Rattle.duels.specs.Inside.Stacks.{Beside, DuelsOf};
+ghost use Rattle.duels.specs.Inside.Asked.{Duelable, Meetable, Arriving, FreeWithin};
+ghost use Rattle.duels.specs.Inside.Stacks.{ArrivedOf, RunAhead, SameBehind, pushedRun};
+
+// What the windows so far have left: how many have arrived, how many of them are kept, and how many fell together with another.
+pub(crate) struct Arrived {
+    pub windows: usize,
+    pub kept: usize,
+    pub both: usize,
+}
 
 // Whether an arriving window ends on the stack.
 enum Arrival {
@@ -88,25 +99,27 @@ fn meet(
     )
 }
 
-// All windows below `windows` arrive. Each duel drops one window, or both: so the duels fought are the windows dropped less those where
-// both fell, and only these are counted on the way.
-pub(crate) fn duel_all(
+// The windows from `from` up to `past` arrive, on the stack that those before them left. Each duel drops one window, or both: so the duels
+// fought are the windows dropped less those where both fell, and only these are counted on the way.
+pub(crate) fn duel_run(
     pattern: &[i32],
     witness_i: &[u16],
     witness_j: &[u16],
     olders: &[u8],
     newers: &[u8],
     trace: &[i32],
-    windows: usize,
+    from: usize,
+    past: usize,
+    before: Arrived,
     survivors: &mut [u32],
-) -> Duelled
-    requires { ⌜ Arriving (now pattern) (now «witness_i») (now «witness_j») (now trace) windows (now survivors) × Coded (now pattern) (now «witness_i») (now «witness_j») (now olders) (now newers) (length (now pattern)) ⌝ }
-    ensures { λ r. ⌜ DuelsOf (now (pattern .entry)) (now («witness_i» .entry)) (now («witness_j» .entry)) (now (trace .entry)) windows (now (survivors .entry)) (now (survivors .exit)) (r .kept) (r .fought) ⌝ }
+) -> Arrived
+    requires { ⌜ Arriving (now pattern) (now «witness_i») (now «witness_j») (now trace) (length (now survivors)) × Coded (now pattern) (now «witness_i») (now «witness_j») (now olders) (now newers) (length (now pattern)) × RunAhead (now pattern) (now trace) from past × ArrivedOf (now pattern) (now «witness_i») (now «witness_j») (now trace) (now survivors) from (before .windows) (before .kept) (before .both) ⌝ }
+    ensures { λ r. ⌜ ArrivedOf (now (pattern .entry)) (now («witness_i» .entry)) (now («witness_j» .entry)) (now (trace .entry)) (now (survivors .exit)) past (r .windows) (r .kept) (r .both) × SameBehind (windowsOf (length (now (pattern .entry))) (length (now (trace .entry)))) (now (survivors .entry)) (now (survivors .exit)) ⌝ }
 {
-    let mut kept: usize = 0;
-    let mut both: usize = 0;
-    let mut y: usize = 0;
-    'windows: while y < windows {
+    let mut kept = before.kept;
+    let mut both = before.both;
+    let mut y = from;
+    'windows: while y < past {
         let end = loop {
             if kept == 0 {
                 break Arrival::Pushed;
@@ -142,29 +155,35 @@ pub(crate) fn duel_all(
         kept += 1;
         y += 1;
     }
-    Duelled {
+    let count = past - from;
+    let windows = before.windows + count;
+    Arrived {
+        windows,
         kept,
-        fought: (windows - kept - both) as u32,
+        both,
     }
 }
 
-// All windows below `windows` arrive where each agrees with the one before it: every one is pushed.
-pub(crate) fn keep_all(
-    pattern: &[i32],
-    witness_i: &[u16],
-    witness_j: &[u16],
-    trace: &[i32],
-    windows: usize,
-    survivors: &mut [u32],
-) -> Duelled
-    requires { ⌜ Arriving (now pattern) (now «witness_i») (now «witness_j») (now trace) windows (now survivors) × Beside (meetsBy (now pattern) (now «witness_i») (now «witness_j») (now trace)) ⌝ }
-    ensures { λ r. ⌜ DuelsOf (now (pattern .entry)) (now («witness_i» .entry)) (now («witness_j» .entry)) (now (trace .entry)) windows (now (survivors .entry)) (now (survivors .exit)) (r .kept) (r .fought) × (r .kept ≡ windows) ⌝ }
+// The windows from `from` up to `past` arrive where all windows agree: every one is pushed, behind the `kept` entries before.
+pub(crate) fn keep_run(from: usize, past: usize, kept: usize, survivors: &mut [u32])
+    requires { ⌜ (from ≤ past) × (past ≤ traceLimit + 1) × (kept + (past - from) ≤ length (now survivors)) ⌝ }
+    ensures { λ r. ⌜ now (survivors .exit) ≡ pushedRun (now (survivors .entry)) kept from (past - from) ⌝ }
 {
+    for k in 0..past - from {
+        survivors[kept + k] = (from + k) as u32;
+    }
+}
+
+// Writes all windows down, whether they take part or not, and tells whether a sample is lost, from the first window's last one on, which is
+// `reach` samples after its start. Where there are no duels this is one pass, and a look for lost stitches by itself would be a second.
+pub(crate) fn keep_all(trace: &[i32], reach: usize, windows: usize, survivors: &mut [u32]) -> bool
+    requires { ⌜ (reach + windows ≤ length (now trace)) × (windows ≤ length (now survivors)) × (length (now trace) ≤ traceLimit) ⌝ }
+    ensures { λ r. ⌜ (now (survivors .exit) ≡ pushedRun (now (survivors .entry)) 0 0 windows) × (r ≡ false → FreeWithin (now (trace .entry)) reach (reach + windows)) ⌝ }
+{
+    let mut lost = false;
     for y in 0..windows {
         survivors[y] = y as u32;
+        lost = lost | (trace[reach + y] == LOST);
     }
-    Duelled {
-        kept: windows,
-        fought: 0,
-    }
+    lost
 }

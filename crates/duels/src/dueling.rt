@@ -1,22 +1,69 @@
-// The duels of all windows of a trace, by two witness tables as they stand.
+// The duels of a trace's windows, by two witness tables as they stand.
 //
 // Follows docs/RULES.md, "Duels", "What is written" and "Refusals", numbers 1 to 5. Lengths are looked at first, then the entries, so a call
-// that fights no duels has stored nothing. Where no entry names a place a window costs a store. All other tables cost a turn an offset
-// (codes.rt), D comparisons of the trace and 2 KB of stack.
+// that fights no duels has stored nothing. Where no entry names a place a window costs a store, and two where a stitch is lost. All other
+// tables cost a turn an offset (codes.rt), D comparisons of the trace and 2 KB of stack.
 
+use crate::answers::Duelled;
 use crate::answers::Duels;
-use crate::arrivals::duel_all;
 use crate::arrivals::keep_all;
 use crate::codes::none_told;
 use crate::codes::write_codes;
+use crate::runs::arrive_runs;
 use lists::fill_unused;
 use order::PATTERN_LIMIT;
+use sizes::Checked;
 use sizes::Fitting;
+use stitches::holds_lost;
+ghost use mathlib.Core.Path.{_≡_};
+ghost use mathlib.Core.Bool.{true};
+ghost use Prim.Native.Nat.{_≤_, _<_};
+ghost use lib.ListN.{length};
+ghost use Rattle.order.specs.Sizes.{traceLimit, windowsOf};
 ghost use Rattle.duels.specs.DuelPromise.{DuelPromise};
 ghost use Rattle.duels.specs.Inside.Asked.{Arriving};
-ghost use Rattle.duels.specs.Inside.Stacks.{Fought};
+ghost use Rattle.duels.specs.Inside.Stacks.{SameBehind, AllFree, Way, KeptOf, Fought};
 
-// All windows arrive and duel by the codes of their offsets, unless one has entries that name a place and tell no witness.
+// The windows that take part arrive, one way or the other: what they leave on the stack, with "unused" behind it.
+fn keep(
+    pattern: &[i32],
+    witness_i: &[u16],
+    witness_j: &[u16],
+    olders: &[u8],
+    newers: &[u8],
+    trace: &[i32],
+    agreed: bool,
+    windows: usize,
+    survivors: &mut [u32],
+) -> Duelled
+    requires { ⌜ Arriving (now pattern) (now «witness_i») (now «witness_j») (now trace) (length (now survivors)) × Way agreed (now pattern) (now «witness_i») (now «witness_j») (now olders) (now newers) (now trace) × (windows ≡ windowsOf (length (now pattern)) (length (now trace))) ⌝ }
+    ensures { λ r. ⌜ KeptOf (now (pattern .entry)) (now («witness_i» .entry)) (now («witness_j» .entry)) (now (trace .entry)) (now (survivors .entry)) (now (survivors .exit)) r ⌝ }
+{
+    let after = arrive_runs(
+        pattern,
+        witness_i,
+        witness_j,
+        olders,
+        newers,
+        trace,
+        agreed,
+        windows,
+        survivors,
+    );
+    let kept = after.kept;
+    fill_unused(&mut survivors[kept..windows]);
+    let arrived = after.windows;
+    let dropped = arrived - kept;
+    let fought = dropped - after.both;
+    let struck = windows - arrived;
+    Duelled {
+        kept,
+        fought: fought as u32,
+        struck: struck as u32,
+    }
+}
+
+// The windows arrive and duel by the codes of their offsets, unless one has entries that name a place and tell no witness.
 fn fight(
     pattern: &[i32],
     witness_i: &[u16],
@@ -25,7 +72,7 @@ fn fight(
     windows: usize,
     survivors: &mut [u32],
 ) -> Duels
-    requires { ⌜ Arriving (now pattern) (now «witness_i») (now «witness_j») (now trace) windows (now survivors) ⌝ }
+    requires { ⌜ Arriving (now pattern) (now «witness_i») (now «witness_j») (now trace) (length (now survivors)) × (windows ≡ windowsOf (length (now pattern)) (length (now trace))) ⌝ }
     ensures { λ r. ⌜ Fought (now (pattern .entry)) (now («witness_i» .entry)) (now («witness_j» .entry)) (now (trace .entry)) (now (survivors .entry)) (now (survivors .exit)) r ⌝ }
 {
     let mut olders = [0u8; PATTERN_LIMIT];
@@ -34,22 +81,38 @@ fn fight(
     if clear < pattern.len() {
         return Duels::Untold(clear);
     }
-    let duelled = duel_all(
+    Duels::Done(keep(
         pattern,
         witness_i,
         witness_j,
         &olders,
         &newers,
         trace,
+        false,
         windows,
         survivors,
-    );
-    let kept = duelled.kept;
-    fill_unused(&mut survivors[kept..windows]);
-    Duels::Done(duelled)
+    ))
 }
 
-// All windows arrive, with duels or without: where no entry names a place all windows agree.
+// Writes all windows down, and tells whether these are the ones kept, where all agree: they are if no stitch is lost.
+fn all_kept(pattern: &[i32], trace: &[i32], windows: usize, survivors: &mut [u32]) -> bool
+    requires { ⌜ (0 < length (now pattern)) × (length (now trace) ≤ traceLimit) × (windows ≡ windowsOf (length (now pattern)) (length (now trace))) × (windows ≤ length (now survivors)) ⌝ }
+    ensures { λ r. ⌜ (r ≡ true → AllFree (now (trace .entry)) windows (now (survivors .entry)) (now (survivors .exit))) × SameBehind windows (now (survivors .entry)) (now (survivors .exit)) ⌝ }
+{
+    if windows == 0 {
+        return false;
+    }
+    let reach = pattern.len() - 1;
+    if keep_all(trace, reach, windows, survivors) {
+        return false;
+    }
+    if holds_lost(&trace[0..reach]) {
+        return false;
+    }
+    true
+}
+
+// The windows arrive, with duels or without: where no entry names a place all of them agree, and there is no code to look at.
 fn arrive_all(
     pattern: &[i32],
     witness_i: &[u16],
@@ -58,16 +121,35 @@ fn arrive_all(
     windows: usize,
     survivors: &mut [u32],
 ) -> Duels
-    requires { ⌜ Arriving (now pattern) (now «witness_i») (now «witness_j») (now trace) windows (now survivors) ⌝ }
+    requires { ⌜ Arriving (now pattern) (now «witness_i») (now «witness_j») (now trace) (length (now survivors)) × (windows ≡ windowsOf (length (now pattern)) (length (now trace))) × (0 < length (now pattern)) ⌝ }
     ensures { λ r. ⌜ Fought (now (pattern .entry)) (now («witness_i» .entry)) (now («witness_j» .entry)) (now (trace .entry)) (now (survivors .entry)) (now (survivors .exit)) r ⌝ }
 {
     if none_told(witness_i, pattern.len()) {
-        return Duels::Done(keep_all(pattern, witness_i, witness_j, trace, windows, survivors));
+        if all_kept(pattern, trace, windows, survivors) {
+            return Duels::Done(Duelled {
+                kept: windows,
+                fought: 0,
+                struck: 0,
+            });
+        }
+        let codes = [0u8; 1];
+        return Duels::Done(keep(
+            pattern,
+            witness_i,
+            witness_j,
+            &codes,
+            &codes,
+            trace,
+            true,
+            windows,
+            survivors,
+        ));
     }
     fight(pattern, witness_i, witness_j, trace, windows, survivors)
 }
 
-// The duels of all windows of a trace, on a stack in the survivors buffer: what is kept, and how many were fought.
+// The duels of a trace's windows, on a stack in the survivors buffer: what is kept, how many were fought, and how many windows were struck
+// before them.
 pub fn duel_windows(
     pattern: &[i32],
     witness_i: &[u16],
@@ -79,20 +161,14 @@ pub fn duel_windows(
 {
     let m = pattern.len();
     let room = survivors.len();
-    // there are neighbour tables and positions in no duel: m entries and the same room again refuse nothing
-    match sizes::for_search(
-        m,
-        m,
-        m,
-        witness_i.len(),
-        witness_j.len(),
-        trace.len(),
-        room,
-        room,
-    ) {
-        Fitting::Refused(why) => Duels::Refused(why),
-        Fitting::Fit(windows) => {
-            arrive_all(pattern, witness_i, witness_j, trace, windows, survivors)
-        }
+    match sizes::for_agreement(m, witness_i.len(), witness_j.len()) {
+        Checked::Refused(why) => Duels::Refused(why),
+        // there are no positions in the duels: the same room again refuses nothing
+        Checked::Fine => match sizes::for_room(m, trace.len(), room, room) {
+            Fitting::Refused(why) => Duels::Refused(why),
+            Fitting::Fit(windows) => {
+                arrive_all(pattern, witness_i, witness_j, trace, windows, survivors)
+            }
+        },
     }
 }

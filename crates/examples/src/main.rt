@@ -4,10 +4,12 @@
 
 use libc::STDOUT_FILENO;
 use order::Counts;
+use order::LOST;
 use order::Refusal;
 use recording::Reading;
 use recording::Writing;
 use search::Searched;
+use tables::Prepared;
 use words::wide16;
 use words::wide32;
 
@@ -75,6 +77,8 @@ fn counts(c: Counts) {
     number(wide32(c.sweep));
     word(b" R");
     number(wide32(c.found));
+    word(b" struck");
+    number(wide32(c.struck));
     end_line();
 }
 
@@ -166,7 +170,7 @@ fn run(letter: &[u8], pattern: &[i32], trace: &[i32], altered: usize, shown: boo
     }
 }
 
-// Examples c to j: the answer, and both lists.
+// Examples c to j and o: the answer, and both lists.
 fn example(letter: &[u8], pattern: &[i32], trace: &[i32]) {
     run(letter, pattern, trace, 0, true);
 }
@@ -236,13 +240,13 @@ fn few() {
     example(b"h", &[4i32, 9, 6, 6], &[4i32, 9, 7, 6]);
 }
 
-// Examples i and j: a rising pattern, and the largest samples there are.
+// Examples i and j: a rising pattern, and the lowest and the highest tension there are.
 fn steep() {
     example(b"i", &[1i32, 2, 3], &[1i32, 2, 3, 4, 5]);
     example(
         b"j",
-        &[-2147483648i32, 2147483647],
-        &[2147483647i32, -2147483648, 0],
+        &[-2147483647i32, 2147483647],
+        &[2147483647i32, -2147483647, 0],
     );
 }
 
@@ -317,6 +321,46 @@ fn writings() {
     written_into(17, 18446744073709551615, &[7i32]);
 }
 
+// Example o: traces with lost stitches, which strike every window, or some.
+fn lost() {
+    example(b"o", &[7i32], &[LOST, LOST]);
+    example(b"o", &[1i32, 2], &[1i32, 2, LOST, 1, 2]);
+    example(b"o", &[1i32, 2, 3], &[1i32, 2, 2, LOST, 1, 2, 3]);
+}
+
+// Example p: a preparation's answer.
+fn prepared(answer: Prepared) {
+    word(b"p");
+    match answer {
+        Prepared::Done => end_line(),
+        Prepared::Refused(why) => refusal(why),
+    }
+}
+
+// Example p: a pattern and four tables of so many entries.
+fn prepare_into(pattern: &[i32], entries: usize) {
+    let mut low = [0u16; 1025];
+    let mut high = [0u16; 1025];
+    let mut witness_i = [0u16; 1025];
+    let mut witness_j = [0u16; 1025];
+    if entries <= 1025 {
+        prepared(tables::prepare(
+            pattern,
+            &mut low[0..entries],
+            &mut high[0..entries],
+            &mut witness_i[0..entries],
+            &mut witness_j[0..entries],
+        ));
+    }
+}
+
+// Example p: patterns with lost stitches, the last of them too long.
+fn unprepared() {
+    prepare_into(&[LOST, 2147483647], 2);
+    prepare_into(&[3i32, LOST, LOST], 0);
+    prepare_into(&[LOST; 1025], 1025);
+}
+
 fn main() {
     tables();
     bends();
@@ -326,4 +370,6 @@ fn main() {
     recordings();
     foreign();
     writings();
+    lost();
+    unprepared();
 }

@@ -9,22 +9,22 @@ use Rattle.order.specs.declared.refusal.Table.the-variants.{Low, High, WitnessI
 use Rattle.order.specs.declared.refusal.Fault.{Fault}
 use Rattle.order.specs.declared.refusal.Fault.the-variants.{LongLead, ManySamples, ShortBuffer}
 use Rattle.order.specs.declared.refusal.Refusal.{Refusal}
-use Rattle.order.specs.declared.refusal.Refusal.the-variants.{EmptyPattern, LongPattern, ShortTable, LongTrace, ShortSurvivors, ShortPositions, ShortRecording, WrongMark, WrongDistance, LongDistance, ShortSamples, LongInput, ForeignEntry, Unplaced}
+use Rattle.order.specs.declared.refusal.Refusal.the-variants.{EmptyPattern, LongPattern, ShortTable, LongTrace, ShortSurvivors, ShortPositions, ShortRecording, WrongMark, WrongDistance, LongDistance, ShortSamples, LongInput, ForeignEntry, LostStitch, Unplaced}
 use Rattle.order.specs.Refusals.{Verdict, accepted, refused, foreignNumber, faultNumber, numberOf, placeOf}
 use Rattle.host_answers.specs.Results.{refusalResult, resultOf}
 
-table-range : (t : Table) → (1 ≤ foreignNumber t) × (foreignNumber t ≤ 20)
+table-range : (t : Table) → (1 ≤ foreignNumber t) × (foreignNumber t ≤ 21)
 table-range Low = (omega arith, omega arith)
 table-range High = (omega arith, omega arith)
 table-range WitnessI = (omega arith, omega arith)
 table-range WitnessJ = (omega arith, omega arith)
 
-fault-range : (f : Fault) → (1 ≤ faultNumber f) × (faultNumber f ≤ 20)
+fault-range : (f : Fault) → (1 ≤ faultNumber f) × (faultNumber f ≤ 21)
 fault-range LongLead = (omega arith, omega arith)
 fault-range ManySamples = (omega arith, omega arith)
 fault-range ShortBuffer = (omega arith, omega arith)
 
-pub number-range : (r : Refusal) → (1 ≤ numberOf r) × (numberOf r ≤ 20)
+pub number-range : (r : Refusal) → (1 ≤ numberOf r) × (numberOf r ≤ 21)
 number-range EmptyPattern = (omega arith, omega arith)
 number-range (LongPattern m) = (omega arith, omega arith)
 number-range (ShortTable t) = (omega arith, omega arith)
@@ -38,6 +38,7 @@ number-range (LongDistance p) = (omega arith, omega arith)
 number-range (ShortSamples n) = (omega arith, omega arith)
 number-range LongInput = (omega arith, omega arith)
 number-range (ForeignEntry t k) = table-range t
+number-range (LostStitch p) = (omega arith, omega arith)
 number-range (Unplaced f) = fault-range f
 
 pub result-made : (r : Refusal) {n p q : ℕ} → n ≡ numberOf r → p ≡ placeOf r → q ≡ min p 4294967295 → n * 4294967296 + q ≡ refusalResult r

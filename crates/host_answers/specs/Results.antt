@@ -14,6 +14,6 @@ abbrev pub resultOf : Verdict → ℕ
 resultOf accepted = 0
 resultOf (refused r) = refusalResult r
 
--- N, D, S, W, R
+-- N, D, S, W, R and the number struck
 abbrev pub countsList : Counts → List ℕ
-countsList c = c .windows ∷ c .duels ∷ c .survivors ∷ c .sweep ∷ c .found ∷ []
+countsList c = c .windows ∷ c .duels ∷ c .survivors ∷ c .sweep ∷ c .found ∷ c .struck ∷ []

@@ -12,11 +12,11 @@ ghost use Rattle.words.specs.Handed.{wordsPut};
 ghost use Rattle.host_answers.specs.Results.{countsList};
 ghost use Rattle.host_answers.specs.Answers.{AnswerPut};
 
-// Writes N, D, S, W, R, as many as there is room for.
+// Writes N, D, S, W, R and the number struck, as many as there is room for.
 fn put_counts(c: Counts, counts: &mut [u8])
     ensures { λ r. ⌜ now (counts .exit) ≡ wordsPut (countsList c) (now (counts .entry)) ⌝ }
 {
-    let list = [c.windows, c.duels, c.survivors, c.sweep, c.found];
+    let list = [c.windows, c.duels, c.survivors, c.sweep, c.found, c.struck];
     put_words(&list, counts);
 }
 

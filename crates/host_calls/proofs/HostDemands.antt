@@ -39,11 +39,11 @@ module _ (P T : List ℤ) (limit : length T ≤ traceLimit) where
       let d = duels-and-survivors P T in
       let w = sweep-cost P T in
       let f = positions-few P T in
-      (omega arith, (omega arith, (omega arith, (omega arith, (omega arith, tt)))))
+      (omega arith, (omega arith, (omega arith, (omega arith, (omega arith, (omega arith, tt))))))
 
   -- ---- what is read is the rules'
 
-  pub counts-back : (counts : List ℕ) → take 5 (wordsIn (over (countBytes P T (length counts / 4)) counts)) ≡ take (length counts / 4) (countsList (countsOf P T))
+  pub counts-back : (counts : List ℕ) → take 6 (wordsIn (over (countBytes P T (length counts / 4)) counts)) ≡ take (length counts / 4) (countsList (countsOf P T))
   counts-back counts = words-back (countsList (countsOf P T)) counts count-words
 
   pub demands-back : (kept listed : List ℕ)

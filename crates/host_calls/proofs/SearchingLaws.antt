@@ -1,5 +1,5 @@
--- Shows: a search by the fronts of the host's tables is one by the whole tables; lengths that fit give what the search asks, and
--- others the search's refusal; so what the call leaves meets its promise, the demands among it, which no second result or byte
+-- Shows: a search by the fronts of the host's tables is one by the whole tables; a pattern and lengths that fit give what the search asks,
+-- and others the search's refusal; so what the call leaves meets its promise, the demands among it, which no second result or byte
 -- satisfies.
 -- Assumes nothing.
 use Prim.Native.Nat.{ℕ, zero, suc, _-_, _/_, _≤_, _<_}
@@ -15,7 +15,8 @@ use borrow.Author.Tests.{ne-eqb, le-ltb}
 use Rattle.order.specs.declared.refusal.Refusal.{Refusal}
 use Rattle.order.specs.declared.steps.Counts.{Counts}
 use Rattle.order.specs.Sizes.{Spot, none, place, lowest, orElse, patternLimit, traceLimit, windowsOf}
-use Rattle.order.specs.Refusals.{Verdict, accepted, refused, patternVerdict, witnessesVerdict, tablesVerdict, roomVerdict, ownVerdict, foreignAt, searchVerdict}
+use Rattle.order.specs.Lost.{firstLost}
+use Rattle.order.specs.Refusals.{Verdict, accepted, refused, patternVerdict, stitchesVerdict, witnessesVerdict, tablesVerdict, roomVerdict, ownVerdict, foreignAt, searchVerdict}
 use Rattle.order.specs.Neighbours.{lowOf, highOf}
 use Rattle.order.specs.Witnesses.{witnessI, witnessJ}
 use Rattle.order.specs.Duels.{survivors as kept-windows}
@@ -24,16 +25,18 @@ use Rattle.order.specs.Written.{over, filled}
 use Rattle.order.proofs.Lists.{length-each, getD-each, windowsOf-as}
 use Rattle.order.proofs.Dueling.{duels-and-survivors}
 use Rattle.search.specs.declared.answers.Searched.{Searched}
+use Rattle.sizes.specs.declared.answers.Checked.{Checked}
+use Rattle.sizes.specs.declared.answers.Checked.the-variants.{Refused}
 use Rattle.sizes.specs.declared.answers.Fitting.{Fitting}
 use Rattle.sizes.specs.declared.answers.Fitting.the-variants.{Fit, Refused as Unfit}
 use Rattle.order.specs.Written.{afterVerdict}
 use Rattle.sizes.specs.Lengths.{Room}
 use Rattle.search.specs.SearchPromise.{SearchPromise, searchedBy}
-use Rattle.sizes.specs.Answers.{fittingBy}
-use Rattle.sizes.specs.Lengths.{lengthsVerdict, LengthsPromise}
+use Rattle.sizes.specs.Answers.{checkedBy, fittingBy}
+use Rattle.sizes.specs.Lengths.{fittingVerdict, FittingPromise}
 use Rattle.order.proofs.Rows.{then-row, row-refuses}
-use Rattle.sizes.proofs.Verdicts.{fit-accepted, unfit-why, pattern-passed, tables-passed, room-passed}
-use Rattle.sizes.proofs.VerdictRows.{sizes, sizes-row, room-row}
+use Rattle.sizes.proofs.Verdicts.{refused-why, fit-accepted, unfit-why, pattern-passed, stitches-passed, tables-passed, room-passed}
+use Rattle.sizes.proofs.VerdictRows.{sizes, sizes-row, room-row, pattern-stays}
 use Rattle.search.proofs.WrittenOut.{positions-few}
 use Rattle.search.proofs.SearchLaws.{search-ready}
 use Rattle.words.specs.Bytes.{firstEntries, samplesIn, entriesIn, bytesOf}
@@ -63,15 +66,6 @@ pub tables-read : (low high wi wj : List ℕ) {P T : List ℤ} {lows highs is js
     → SearchPromise P (firstEntries low (length P)) (firstEntries high (length P)) (firstEntries wi (length P)) (firstEntries wj (length P)) T kept listed r kept' listed'
 tables-read low high wi wj p a b c d = rw (← a, ← b, ← c, ← d) p
 
--- the pattern's samples
-pub pattern-read : (pattern low high wi wj : List ℕ) {S T : List ℤ} {kept listed kept' listed' : List ℕ} {r : Searched}
-    → SearchPromise S (firstEntries low (length S)) (firstEntries high (length S)) (firstEntries wi (length S)) (firstEntries wj (length S)) T kept listed r kept' listed'
-    → S ≡ samplesIn pattern
-    → SearchPromise (samplesIn pattern) (firstEntries low (length pattern / 4)) (firstEntries high (length pattern / 4)) (firstEntries wi (length pattern / 4)) (firstEntries wj (length pattern / 4)) T kept listed r kept' listed'
-pattern-read pattern low high wi wj p e =
-    let m : length (samplesIn pattern) ≡ length pattern / 4 = length-each _ (length pattern / 4) in
-    rw m at (rw e at p)
-
 -- ---- the fronts of the tables are what a verdict looks at
 
 lowest-same : (p q : ℕ → Bool) (n : ℕ) → ((k : ℕ) → k < n → p k ≡ q k) → lowest p n ≡ lowest q n
@@ -98,16 +92,17 @@ own-same P low high wi wj m r h =
       foreign-same wj (witnessJ P) m (length P) (r .witness-j-room) h,
     ) refl
 
--- lengths that pass leave only the tables to look at
-only-own : (P : List ℤ) (low high wi wj : List ℕ) (T : List ℤ) (s p : ℕ) → Room (length P) (length low) (length high) (length wi) (length wj)
+-- a pattern without a lost stitch and lengths that pass leave only the tables to look at
+only-own : (P : List ℤ) (low high wi wj : List ℕ) (T : List ℤ) (s p : ℕ) → firstLost P ≡ none → Room (length P) (length low) (length high) (length wi) (length wj)
     → length T ≤ traceLimit → windowsOf (length P) (length T) ≤ s → windowsOf (length P) (length T) ≤ p
     → searchVerdict P low high wi wj T s p ≡ ownVerdict P low high wi wj
-unfolding searchVerdict patternVerdict tablesVerdict witnessesVerdict roomVerdict
-only-own P low high wi wj T s p r t a b =
+unfolding searchVerdict patternVerdict stitchesVerdict tablesVerdict witnessesVerdict roomVerdict
+only-own P low high wi wj T s p l r t a b =
     let some = r .some in
     rw (
       ne-eqb (length P) 0 (λ e. omega arith),
       le-ltb patternLimit (length P) (r .limit),
+      l,
       le-ltb (length low) (length P) (r .low-room),
       le-ltb (length high) (length P) (r .high-room),
       le-ltb (length wi) (length P) (r .witness-i-room),
@@ -117,11 +112,11 @@ only-own P low high wi wj T s p r t a b =
       le-ltb p (windowsOf (length P) (length T)) b,
     ) refl
 
--- lengths that do not pass are refused whatever the tables hold
-stays : (m l h i j n s p : ℕ) (why : Refusal) (next : Verdict) → lengthsVerdict m l h i j n s p ≡ refused why → sizes m l h i j (roomVerdict m n s p next) ≡ refused why
-unfolding lengthsVerdict
-stays m l h i j n s p why next e =
-    row-refuses (λ v. sizes m l h i j (roomVerdict m n s p v)) (then-row (sizes m l h i j) (roomVerdict m n s p) (sizes-row m l h i j) (room-row m n s p)) e next
+-- a pattern or lengths that do not pass are refused whatever the tables hold
+stays : (P : List ℤ) (l h i j n s p : ℕ) (why : Refusal) (next : Verdict) → fittingVerdict P l h i j n s p ≡ refused why → sizes P l h i j (roomVerdict (length P) n s p next) ≡ refused why
+unfolding fittingVerdict
+stays P l h i j n s p why next e =
+    row-refuses (λ v. sizes P l h i j (roomVerdict (length P) n s p v)) (then-row (sizes P l h i j) (roomVerdict (length P) n s p) (sizes-row P l h i j) (room-row (length P) n s p)) e next
 
 -- ---- the answer in the host's buffers
 
@@ -158,29 +153,26 @@ handed (refused why) kept listed a x y f g s l p =
 length-filled : (l : List ℕ) (n : ℕ) → length l ≤ n → length (filled l n) ≡ n
 length-filled l n h = rw (length-append, length-replicate) (omega arith)
 
-module _ (pattern low high wi wj trace survivors positions counts : List ℕ) where
-  abbrev P : List ℤ
-  P = samplesIn pattern
-
+module _ (P : List ℤ) (low high wi wj trace survivors positions counts : List ℕ) where
   abbrev T : List ℤ
   T = samplesIn trace
 
   abbrev m : ℕ
-  m = length pattern / 4
+  m = length P
 
   abbrev n : ℕ
   n = length trace / 4
 
   abbrev verdict : Verdict
-  verdict = searchCase pattern low high wi wj trace survivors positions
+  verdict = searchCase P low high wi wj trace survivors positions
 
   abbrev Lengths : ℕ → Type 0
-  Lengths windows = Fits (length pattern) (length low) (length high) (length wi) (length wj) (length trace) (length survivors) (length positions) windows
+  Lengths windows = Fits P (length low) (length high) (length wi) (length wj) (length trace) (length survivors) (length positions) windows
 
   -- the result and the bytes are all that is to be shown of a call: what the host reads of them then meets the demands
   promised : {r : ℕ} {survivors' positions' counts' : List ℕ} → r ≡ resultOf verdict → survivors' ≡ afterVerdict verdict (keptBytes P T) survivors
       → positions' ≡ afterVerdict verdict (listedBytes P T) positions → counts' ≡ afterVerdict verdict (countBytes P T (length counts / 4)) counts
-      → HostSearch pattern low high wi wj trace survivors positions counts r survivors' positions' counts'
+      → HostSearch P low high wi wj trace survivors positions counts r survivors' positions' counts'
   promised {r} e s p c =
       record {
         result = e;
@@ -203,28 +195,28 @@ module _ (pattern low high wi wj trace survivors positions counts : List ℕ) wh
   same-verdict : {windows s p : ℕ} → Lengths windows → windows ≤ s → windows ≤ p
       → searchVerdict P (firstEntries low m) (firstEntries high m) (firstEntries wi m) (firstEntries wj m) T s p ≡ verdict
   same-verdict {windows} {s} {p} f a b =
+      let l = f .unlost in
       let r = f .room in
       let t = f .trace-limit in
       let e = f .number in
       let x = f .kept-room in
       let y = f .listed-room in
-      let long : length P ≡ m = length-each _ m in
       let trace-long : length T ≡ n = length-each _ n in
-      let few : windowsOf (length P) (length T) ≡ windows = ap₂ windowsOf long trace-long ∙ sym e in
+      let few : windowsOf (length P) (length T) ≡ windows = ap (windowsOf m) trace-long ∙ sym e in
       let own : Room (length P) (length (firstEntries low m)) (length (firstEntries high m)) (length (firstEntries wi m)) (length (firstEntries wj m)) =
-      rw (long, length-each, length-each, length-each, length-each)
+      rw (length-each, length-each, length-each, length-each)
       (record { some = r .some; limit = r .limit; low-room = omega arith; high-room = omega arith; witness-i-room = omega arith; witness-j-room = omega arith }) in
       let all : Room (length P) (length (entriesIn low)) (length (entriesIn high)) (length (entriesIn wi)) (length (entriesIn wj)) =
-      rw (long, length-each, length-each, length-each, length-each) r in
-      only-own P (firstEntries low m) (firstEntries high m) (firstEntries wi m) (firstEntries wj m) T s p own (omega arith) (omega arith) (omega arith)
+      rw (length-each, length-each, length-each, length-each) r in
+      only-own P (firstEntries low m) (firstEntries high m) (firstEntries wi m) (firstEntries wj m) T s p l own (omega arith) (omega arith) (omega arith)
       ∙ own-same P low high wi wj m r (omega arith)
-      ∙ sym (only-own P (entriesIn low) (entriesIn high) (entriesIn wi) (entriesIn wj) T (length survivors / 4) (length positions / 4) all (omega arith) (omega arith) (omega arith))
+      ∙ sym (only-own P (entriesIn low) (entriesIn high) (entriesIn wi) (entriesIn wj) T (length survivors / 4) (length positions / 4) l all (omega arith) (omega arith) (omega arith))
 
   pub search-put : {windows samples : ℕ} {S : List ℤ} {kept listed kept' listed' survivors' positions' counts' : List ℕ} {answer : Searched} {r : ℕ}
       → Lengths windows → Arrays n samples (length kept) (length listed)
       → SearchPromise P (firstEntries low m) (firstEntries high m) (firstEntries wi m) (firstEntries wj m) S kept listed answer kept' listed' → S ≡ T
       → AnswerPut answer (take (windows - 0) kept') (take (windows - 0) listed') survivors positions counts r survivors' positions' counts'
-      → HostSearch pattern low high wi wj trace survivors positions counts r survivors' positions' counts'
+      → HostSearch P low high wi wj trace survivors positions counts r survivors' positions' counts'
   search-put {windows} {samples} {S} {kept} {listed} f w p same a =
       let q = rw same at p in
       let fewer = f .few in
@@ -236,23 +228,24 @@ module _ (pattern low high wi wj trace survivors positions counts : List ℕ) wh
       let lists : windows ≤ length listed = omega arith in
       let v = same-verdict f keeps lists in
       let N = windowsOf (length P) (length T) in
-      let number : N ≡ windows - 0 = ap₂ windowsOf (length-each _ m) (length-each _ n) ∙ sym (f .number) ∙ sym (sub-zero windows) in
+      let number : N ≡ windows - 0 = ap (windowsOf m) (length-each _ n) ∙ sym (f .number) ∙ sym (sub-zero windows) in
       let h = handed verdict kept listed (rw v at (q .answer)) (rw v at (q .survivors-after)) (rw v at (q .positions-after))
       (length-filled (kept-windows P T) N (omega (arith, duels-and-survivors P T)) ∙ number)
       (length-filled (listed-windows P T) N (positions-few P T) ∙ number) (omega arith) (omega arith) a in
       promised (h .result) (h .kept-is) (h .listed-is) (h .counts-is)
 
-  -- ---- the look at the lengths
+  -- ---- the look at the pattern and the lengths
 
   abbrev Looked : Fitting → Type 0
-  Looked r = LengthsPromise m (length low / 2) (length high / 2) (length wi / 2) (length wj / 2) n (length survivors / 4) (length positions / 4) r
+  Looked r = FittingPromise P (length low / 2) (length high / 2) (length wi / 2) (length wj / 2) n (length survivors / 4) (length positions / 4) r
 
   pub search-fits : (windows : ℕ) {r : Fitting} → Looked r → r ≡ Fit windows → Lengths windows
-  unfolding lengthsVerdict
+  unfolding fittingVerdict
   search-fits windows p e =
       let f = fit-accepted _ _ (sym e ∙ p .answer) in
       let a = pattern-passed m _ (f .0) in
-      let b = tables-passed m (length low / 2) (length high / 2) (length wi / 2) (length wj / 2) _ (a .2) in
+      let o = stitches-passed P _ (a .2) in
+      let b = tables-passed m (length low / 2) (length high / 2) (length wi / 2) (length wj / 2) _ (o .1) in
       let c = room-passed m n (length survivors / 4) (length positions / 4) accepted (b .4) in
       let some = a .0 in
       let number = f .1 in
@@ -264,6 +257,7 @@ module _ (pattern low high wi wj trace survivors positions counts : List ℕ) wh
       let i = b .2 in
       let j = b .3 in
       record {
+        unlost = o .0;
         room = record { some = some; limit = a .1; low-room = l; high-room = h; witness-i-room = i; witness-j-room = j };
         trace-limit = c .0;
         number = number;
@@ -273,19 +267,19 @@ module _ (pattern low high wi wj trace survivors positions counts : List ℕ) wh
       }
 
   pub search-refused : (why : Refusal) {r : Fitting} {code : ℕ} → Looked r → r ≡ Unfit why → code ≡ refusalResult why
-      → HostSearch pattern low high wi wj trace survivors positions counts code survivors positions counts
+      → HostSearch P low high wi wj trace survivors positions counts code survivors positions counts
   unfolding searchVerdict
   search-refused why p e c =
       let f = unfit-why _ _ (sym e ∙ p .answer) in
       let v : verdict ≡ refused why =
-      rw (length-each, length-each, length-each, length-each, length-each, length-each)
-      (stays m (length low / 2) (length high / 2) (length wi / 2) (length wj / 2) n (length survivors / 4) (length positions / 4) why _ f) in
+      rw (length-each, length-each, length-each, length-each, length-each)
+      (stays P (length low / 2) (length high / 2) (length wi / 2) (length wj / 2) n (length survivors / 4) (length positions / 4) why _ f) in
       promised (rw v c) (rw v refl) (rw v refl) (rw v refl)
 
   -- no second result, and no other byte in a buffer
   pub tension-search-only-answer : {r s : ℕ} {kept₁ listed₁ counts₁ kept₂ listed₂ counts₂ : List ℕ}
-      → HostSearch pattern low high wi wj trace survivors positions counts r kept₁ listed₁ counts₁
-      → HostSearch pattern low high wi wj trace survivors positions counts s kept₂ listed₂ counts₂
+      → HostSearch P low high wi wj trace survivors positions counts r kept₁ listed₁ counts₁
+      → HostSearch P low high wi wj trace survivors positions counts s kept₂ listed₂ counts₂
       → (r ≡ s) × (kept₁ ≡ kept₂) × (listed₁ ≡ listed₂) × (counts₁ ≡ counts₂)
   tension-search-only-answer p q = (
     p .result ∙ sym (q .result),
@@ -293,3 +287,19 @@ module _ (pattern low high wi wj trace survivors positions counts : List ℕ) wh
     p .positions-after ∙ sym (q .positions-after),
     p .counts-after ∙ sym (q .counts-after),
   )
+
+-- ---- by the pattern's bytes
+
+-- a length that is refused is refused before all else
+pub search-unfit : (pattern low high wi wj trace survivors positions counts : List ℕ) {why : Refusal} {result : ℕ} {c : Checked} → c ≡ checkedBy (patternVerdict (length pattern / 4) accepted) → c ≡ Refused why
+    → result ≡ refusalResult why → HostSearch (samplesIn pattern) low high wi wj trace survivors positions counts result survivors positions counts
+unfolding searchVerdict
+search-unfit pattern low high wi wj trace survivors positions counts {why} e g r =
+    let v : searchCase (samplesIn pattern) low high wi wj trace survivors positions ≡ refused why = refused-why _ why (sym g ∙ pattern-stays _ (rw length-each e) g _) in
+    promised (samplesIn pattern) low high wi wj trace survivors positions counts (rw v r) (rw v refl) (rw v refl) (rw v refl)
+
+-- the samples are those of the pattern's bytes
+pub samples-searched : (pattern : List ℕ) {S : List ℤ} {low high wi wj trace survivors positions counts survivors' positions' counts' : List ℕ} {r : ℕ}
+    → HostSearch S low high wi wj trace survivors positions counts r survivors' positions' counts' → S ≡ samplesIn pattern
+    → HostSearch (samplesIn pattern) low high wi wj trace survivors positions counts r survivors' positions' counts'
+samples-searched pattern p e = rw e at p

@@ -4,7 +4,9 @@ use Prim.Native.Nat.{ℕ, _/_, _≤_}
 use mathlib.Core.Path.{_≡_}
 use mathlib.Core.List.{List}
 use lib.IntN.{ℤ}
-use Rattle.order.specs.Sizes.{traceLimit, windowsOf}
+use lib.ListN.{length}
+use Rattle.order.specs.Sizes.{none, traceLimit, windowsOf}
+use Rattle.order.specs.Lost.{firstLost}
 use Rattle.order.specs.Neighbours.{lowTable, highTable}
 use Rattle.order.specs.Witnesses.{witnessITable, witnessJTable}
 use Rattle.order.specs.Written.{over}
@@ -18,11 +20,12 @@ pub record TablesPut (P : List ℤ) (low high wi wj low' high' wi' wj' : List �
   pub witness-i-put : wi' ≡ over (bytesOf 2 (witnessITable P)) wi
   pub witness-j-put : wj' ≡ over (bytesOf 2 (witnessJTable P)) wj
 
--- lengths that a search accepts, and its number of windows
-pub record Fits (pattern low high wi wj trace kept listed windows : ℕ) : Type 0 where
-  pub room : Room (pattern / 4) (low / 2) (high / 2) (wi / 2) (wj / 2)
+-- a pattern and lengths that a search accepts, and its number of windows
+pub record Fits (P : List ℤ) (low high wi wj trace kept listed windows : ℕ) : Type 0 where
+  pub unlost : firstLost P ≡ none
+  pub room : Room (length P) (low / 2) (high / 2) (wi / 2) (wj / 2)
   pub trace-limit : trace / 4 ≤ traceLimit
-  pub number : windows ≡ windowsOf (pattern / 4) (trace / 4)
+  pub number : windows ≡ windowsOf (length P) (trace / 4)
   pub few : windows ≤ trace / 4
   pub kept-room : windows ≤ kept / 4
   pub listed-room : windows ≤ listed / 4

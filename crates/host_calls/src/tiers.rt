@@ -1,18 +1,21 @@
 // A search for a C host, in three sizes of local arrays, since every array is cleared first: a small call does not pay for large ones.
 //
-// Follows docs/RULES.md, "The C entry points", "What is written" and "Refusals". The lengths are checked before
-// anything is converted, and the tables before anything is written, so a refused call has written no byte. An accepted one takes
-// what `search::search` does and a turn for each sample and entry. Stack: 12 KB for the pattern and its tables, and for the trace
-// and the two lists up to 24 KB for 2,048 samples and 768 KB above.
+// Follows docs/RULES.md, "The C entry points", "What is written" and "Refusals". The pattern's length is checked before it is converted,
+// its samples and all other lengths before the trace is, and the tables before anything is written, so a refused call has written no byte.
+// An accepted one takes what `search::search` does and a turn for each sample and entry. Stack: 12 KB for the pattern and its tables, and
+// for the trace and the two lists up to 24 KB for 2,048 samples and 768 KB above.
 
 use crate::reading::all_samples;
-use crate::searching::search_samples;
+use crate::searching::search_by;
 use host_answers::put_answer;
 use host_answers::result_of;
+use order::PATTERN_LIMIT;
 use order::TRACE_LIMIT;
+use sizes::Checked;
 use sizes::Fitting;
 ghost use Prim.Native.Nat.{_/_, _≤_};
 ghost use lib.ListN.{length};
+ghost use Rattle.words.specs.Bytes.{samplesIn};
 ghost use Rattle.host_calls.specs.HostPromises.{HostSearch};
 ghost use Rattle.host_calls.specs.Inside.{Fits, Arrays};
 
@@ -23,7 +26,7 @@ const SMALL: usize = 2048;
 
 // Searches in arrays for any trace of their size.
 fn search_in(
-    pattern: &[u8],
+    pattern: &[i32],
     low: &[u8],
     high: &[u8],
     witness_i: &[u8],
@@ -37,13 +40,13 @@ fn search_in(
     counts: &mut [u8],
     windows: usize,
 ) -> u64
-    requires { ⌜ Fits (length (now pattern)) (length (now low)) (length (now high)) (length (now «witness_i»)) (length (now «witness_j»)) (length (now trace)) (length (now survivors)) (length (now positions)) windows ⌝ }
+    requires { ⌜ Fits (now pattern) (length (now low)) (length (now high)) (length (now «witness_i»)) (length (now «witness_j»)) (length (now trace)) (length (now survivors)) (length (now positions)) windows ⌝ }
     requires { ⌜ Arrays (length (now trace) / 4) (length (now samples)) (length (now kept)) (length (now listed)) ⌝ }
     ensures { λ r. ⌜ HostSearch (now (pattern .entry)) (now (low .entry)) (now (high .entry)) (now («witness_i» .entry)) (now («witness_j» .entry)) (now (trace .entry)) (now (survivors .entry)) (now (positions .entry)) (now (counts .entry)) r (now (survivors .exit)) (now (positions .exit)) (now (counts .exit)) ⌝ }
 {
     let n = trace.len() / 4;
     all_samples(trace, samples);
-    let answer = search_samples(
+    let answer = search_by(
         pattern,
         low,
         high,
@@ -65,7 +68,7 @@ fn search_in(
 
 // Up to 256 samples.
 fn search_brief(
-    pattern: &[u8],
+    pattern: &[i32],
     low: &[u8],
     high: &[u8],
     witness_i: &[u8],
@@ -77,7 +80,7 @@ fn search_brief(
     windows: usize,
 ) -> u64
     requires { ⌜ length (now trace) / 4 ≤ 256 ⌝ }
-    requires { ⌜ Fits (length (now pattern)) (length (now low)) (length (now high)) (length (now «witness_i»)) (length (now «witness_j»)) (length (now trace)) (length (now survivors)) (length (now positions)) windows ⌝ }
+    requires { ⌜ Fits (now pattern) (length (now low)) (length (now high)) (length (now «witness_i»)) (length (now «witness_j»)) (length (now trace)) (length (now survivors)) (length (now positions)) windows ⌝ }
     ensures { λ r. ⌜ HostSearch (now (pattern .entry)) (now (low .entry)) (now (high .entry)) (now («witness_i» .entry)) (now («witness_j» .entry)) (now (trace .entry)) (now (survivors .entry)) (now (positions .entry)) (now (counts .entry)) r (now (survivors .exit)) (now (positions .exit)) (now (counts .exit)) ⌝ }
 {
     let mut samples = [0i32; BRIEF];
@@ -102,7 +105,7 @@ fn search_brief(
 
 // Up to 2,048 samples.
 fn search_short(
-    pattern: &[u8],
+    pattern: &[i32],
     low: &[u8],
     high: &[u8],
     witness_i: &[u8],
@@ -114,7 +117,7 @@ fn search_short(
     windows: usize,
 ) -> u64
     requires { ⌜ length (now trace) / 4 ≤ 2048 ⌝ }
-    requires { ⌜ Fits (length (now pattern)) (length (now low)) (length (now high)) (length (now «witness_i»)) (length (now «witness_j»)) (length (now trace)) (length (now survivors)) (length (now positions)) windows ⌝ }
+    requires { ⌜ Fits (now pattern) (length (now low)) (length (now high)) (length (now «witness_i»)) (length (now «witness_j»)) (length (now trace)) (length (now survivors)) (length (now positions)) windows ⌝ }
     ensures { λ r. ⌜ HostSearch (now (pattern .entry)) (now (low .entry)) (now (high .entry)) (now («witness_i» .entry)) (now («witness_j» .entry)) (now (trace .entry)) (now (survivors .entry)) (now (positions .entry)) (now (counts .entry)) r (now (survivors .exit)) (now (positions .exit)) (now (counts .exit)) ⌝ }
 {
     let mut samples = [0i32; SMALL];
@@ -137,9 +140,9 @@ fn search_short(
     )
 }
 
-// Any trace: a function of its own, with the look at the lengths in it, which keeps its arrays out of the frame of small calls.
-pub fn search_large(
-    pattern: &[u8],
+// Any trace: a function of its own with two callers, which keeps its arrays out of the frame of small calls.
+fn search_long(
+    pattern: &[i32],
     low: &[u8],
     high: &[u8],
     witness_i: &[u8],
@@ -152,7 +155,7 @@ pub fn search_large(
     ensures { λ r. ⌜ HostSearch (now (pattern .entry)) (now (low .entry)) (now (high .entry)) (now («witness_i» .entry)) (now («witness_j» .entry)) (now (trace .entry)) (now (survivors .entry)) (now (positions .entry)) (now (counts .entry)) r (now (survivors .exit)) (now (positions .exit)) (now (counts .exit)) ⌝ }
 {
     match sizes::for_search(
-        pattern.len() / 4,
+        pattern,
         low.len() / 2,
         high.len() / 2,
         witness_i.len() / 2,
@@ -186,8 +189,8 @@ pub fn search_large(
 }
 
 // The size that the trace takes.
-pub fn search(
-    pattern: &[u8],
+fn search_sized(
+    pattern: &[i32],
     low: &[u8],
     high: &[u8],
     witness_i: &[u8],
@@ -201,7 +204,7 @@ pub fn search(
 {
     let n = trace.len() / 4;
     if SMALL < n {
-        return search_large(
+        return search_long(
             pattern,
             low,
             high,
@@ -214,7 +217,7 @@ pub fn search(
         );
     }
     match sizes::for_search(
-        pattern.len() / 4,
+        pattern,
         low.len() / 2,
         high.len() / 2,
         witness_i.len() / 2,
@@ -250,6 +253,76 @@ pub fn search(
                 positions,
                 counts,
                 windows,
+            )
+        }
+    }
+}
+
+// Searches as for a trace of any length.
+pub fn search_large(
+    pattern: &[u8],
+    low: &[u8],
+    high: &[u8],
+    witness_i: &[u8],
+    witness_j: &[u8],
+    trace: &[u8],
+    survivors: &mut [u8],
+    positions: &mut [u8],
+    counts: &mut [u8],
+) -> u64
+    ensures { λ r. ⌜ HostSearch (samplesIn (now (pattern .entry))) (now (low .entry)) (now (high .entry)) (now («witness_i» .entry)) (now («witness_j» .entry)) (now (trace .entry)) (now (survivors .entry)) (now (positions .entry)) (now (counts .entry)) r (now (survivors .exit)) (now (positions .exit)) (now (counts .exit)) ⌝ }
+{
+    let m = pattern.len() / 4;
+    match sizes::for_pattern(m) {
+        Checked::Refused(why) => result_of(why),
+        Checked::Fine => {
+            let mut samples = [0i32; PATTERN_LIMIT];
+            all_samples(pattern, &mut samples);
+            search_long(
+                &samples[0..m],
+                low,
+                high,
+                witness_i,
+                witness_j,
+                trace,
+                survivors,
+                positions,
+                counts,
+            )
+        }
+    }
+}
+
+// Searches in arrays of the size that the trace takes.
+pub fn search(
+    pattern: &[u8],
+    low: &[u8],
+    high: &[u8],
+    witness_i: &[u8],
+    witness_j: &[u8],
+    trace: &[u8],
+    survivors: &mut [u8],
+    positions: &mut [u8],
+    counts: &mut [u8],
+) -> u64
+    ensures { λ r. ⌜ HostSearch (samplesIn (now (pattern .entry))) (now (low .entry)) (now (high .entry)) (now («witness_i» .entry)) (now («witness_j» .entry)) (now (trace .entry)) (now (survivors .entry)) (now (positions .entry)) (now (counts .entry)) r (now (survivors .exit)) (now (positions .exit)) (now (counts .exit)) ⌝ }
+{
+    let m = pattern.len() / 4;
+    match sizes::for_pattern(m) {
+        Checked::Refused(why) => result_of(why),
+        Checked::Fine => {
+            let mut samples = [0i32; PATTERN_LIMIT];
+            all_samples(pattern, &mut samples);
+            search_sized(
+                &samples[0..m],
+                low,
+                high,
+                witness_i,
+                witness_j,
+                trace,
+                survivors,
+                positions,
+                counts,
             )
         }
     }

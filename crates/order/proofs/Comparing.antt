@@ -51,7 +51,7 @@ leZ-antisym (pos a) (negsuc b) p q = clash p refl
 leZ-antisym (negsuc a) (pos b) p q = clash q refl
 leZ-antisym (negsuc a) (negsuc b) p q = ap negsuc (leb-antisym a b q p)
 
-equal-same : (a b : ℤ) → rel a b ≡ Equal → a ≡ b
+pub equal-same : (a b : ℤ) → rel a b ≡ Equal → a ≡ b
 unfolding rel
 equal-same a b e = go (leZ a b) (leZ b a) refl refl e
   where
@@ -60,7 +60,7 @@ equal-same a b e = go (leZ a b) (leZ b a) refl refl e
     go true false p q e = cc
     go false s p q e = cc
 
-same-equal : (a : ℤ) → rel a a ≡ Equal
+pub same-equal : (a : ℤ) → rel a a ≡ Equal
 unfolding rel
 same-equal a = rw (leZ-refl a) refl
 

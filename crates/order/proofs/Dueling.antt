@@ -5,16 +5,17 @@
 use Prim.Native.Nat.{ℕ, zero, suc, _+_, _≤_, _<_}
 use mathlib.Core.Path.{_≡_, refl, sym, _∙_, ap, ap₂, subst}
 use mathlib.Core.Logic.{⊎-elim}
-use mathlib.Core.List.{List, [], _∷_, _++_, reverse, append-nil, List·Memᴰ, List·Memᴰ·head, List·Memᴰ·tail, List·Memᴰ·cases-cons, List·Memᴰ·not-nil, List·Memᴰ·append-cases, List·Memᴰ·eq-of-singleton}
-use mathlib.Core.Bool.{Bool, true, false, cond}
+use mathlib.Core.List.{List, [], _∷_, _++_, reverse, append-nil, List·Memᴰ, List·Memᴰ·head, List·Memᴰ·tail, List·Memᴰ·cases-cons, List·Memᴰ·not-nil, List·Memᴰ·append-cases, List·Memᴰ·eq-of-singleton, Memᴰ·append-left, Memᴰ·append-right}
+use mathlib.Core.Bool.{Bool, true, false, not, cond}
 use native.Mathlib.Omega.{arith}
 use lib.IntN.{ℤ}
 use lib.ListN.{length, length-append, length-reverse}
+use borrow.Author.Tests.{not-true}
 use Rattle.order.specs.declared.steps.Meeting.{Meeting}
 use Rattle.order.specs.declared.steps.Meeting.the-variants.{Agree, OlderFalls, NewerFalls, BothFall}
 use Rattle.order.specs.Sizes.{those, windowsOf, passing}
-use Rattle.order.specs.Duels.{meets, Stack, stacked, after, arrive, arriveAll, entrants, duelled, duels, survivors}
-use Rattle.order.proofs.Lists.{passing-append, passing-none, passing-top, passing-top-none, reverse-cons, mem-reverse, length-all}
+use Rattle.order.specs.Duels.{meets, Stack, stacked, after, arrive, arriveAll, isStruck, struck, entrants, duelled, duels, survivors}
+use Rattle.order.proofs.Lists.{passing-append, passing-none, passing-top, passing-top-none, reverse-cons, mem-reverse, mem-those, length-those}
 use Rattle.order.proofs.Equivalences.{chain-windows}
 use Rattle.order.proofs.Isomorphisms.{iso-inherits}
 use Rattle.order.proofs.Meetings.{occurs, Told, Agrees, meets-fate}
@@ -118,6 +119,7 @@ module _ {meet : ℕ → ℕ → Meeting} {p : ℕ → Bool} {A : ℕ → ℕ �
   -- what the arrivals of the entrants L, all below n, leave
   pub record After (L : List ℕ) (n : ℕ) (s : Stack) : Type 0 where
     pub below : (z : ℕ) → List·Memᴰ z (s .kept) → z < n
+    pub entered : (z : ℕ) → List·Memᴰ z (s .kept) → List·Memᴰ z L
     pub standing : Standing A (s .kept)
     pub count : s .fought + length (s .kept) ≤ length L
     pub unstruck : passing p (reverse (s .kept)) ≡ passing p L
@@ -131,6 +133,11 @@ module _ {meet : ℕ → ℕ → Meeting} {p : ℕ → Bool} {A : ℕ → ℕ �
             (λ (e : z ≡ n). omega arith)
             (λ (e : List·Memᴰ z (s .kept)). let b : z < n = a .below z e in omega arith)
             (List·Memᴰ·cases-cons (r .within z k));
+        entered = λ z k.
+            ⊎-elim
+            (λ (e : z ≡ n). Memᴰ·append-right L (List·Memᴰ·head e))
+            (λ (e : List·Memᴰ z (s .kept)). Memᴰ·append-left (n ∷ []) (a .entered z e))
+            (List·Memᴰ·cases-cons (r .within z k));
         standing = r .standing;
         count = let c = r .count in let b = a .count in rw length-append (omega arith);
         unstruck = r .unstruck ∙ ap (λ l. l ++ passing p (n ∷ [])) (a .unstruck) ∙ sym (passing-append p L (n ∷ []));
@@ -140,7 +147,7 @@ module _ {meet : ℕ → ℕ → Meeting} {p : ℕ → Bool} {A : ℕ → ℕ �
       r = arrived n (s .kept) (s .fought) (a .standing) (a .below)
   after-more L n s false a =
       rw append-nil
-      (record { below = λ z k. let b : z < n = a .below z k in omega arith; standing = a .standing; count = a .count; unstruck = a .unstruck })
+      (record { below = λ z k. let b : z < n = a .below z k in omega arith; entered = a .entered; standing = a .standing; count = a .count; unstruck = a .unstruck })
 
   pub arrive-append : (xs ys : List ℕ) (s : Stack) → arriveAll meet (xs ++ ys) s ≡ arriveAll meet ys (arriveAll meet xs s)
   unfolding arriveAll
@@ -149,7 +156,7 @@ module _ {meet : ℕ → ℕ → Meeting} {p : ℕ → Bool} {A : ℕ → ℕ �
 
   pub ended : (q : ℕ → Bool) (n : ℕ) → After (those q n) n (arriveAll meet (those q n) (stacked [] 0))
   unfolding those arriveAll
-  ended q zero = record { below = λ z k. absurd (List·Memᴰ·not-nil k); standing = tt; count = omega arith; unstruck = refl }
+  ended q zero = record { below = λ z k. absurd (List·Memᴰ·not-nil k); entered = λ z k. k; standing = tt; count = omega arith; unstruck = refl }
   ended q (suc n) =
       rw arrive-append (after-more (those q n) n (arriveAll meet (those q n) (stacked [] 0)) (q n) (ended q n))
 
@@ -187,12 +194,18 @@ rules-fair P T =
 
 rules-ended : (P T : List ℤ) → After (rules-fair P T) (entrants P T) (windowsOf (length P) (length T)) (duelled P T)
 unfolding duelled entrants
-rules-ended P T = ended (rules-fair P T) (λ x. true) (windowsOf (length P) (length T))
+rules-ended P T = ended (rules-fair P T) (λ x. not (isStruck P T x)) (windowsOf (length P) (length T))
 
--- the survivors are entrants below N
+-- the survivors start below N
 pub survivors-below : (P T : List ℤ) (x : ℕ) → List·Memᴰ x (survivors P T) → x < windowsOf (length P) (length T)
 unfolding survivors
 survivors-below P T x h = rules-ended P T .below x (mem-reverse (duelled P T .kept) h)
+
+-- none of them was struck before the duels
+pub survivors-entered : (P T : List ℤ) (x : ℕ) → List·Memᴰ x (survivors P T) → isStruck P T x ≡ false
+unfolding survivors entrants
+survivors-entered P T x h =
+    not-true (isStruck P T x) (mem-those (λ x. not (isStruck P T x)) (windowsOf (length P) (length T)) (rules-ended P T .entered x (mem-reverse (duelled P T .kept) h)) .1)
 
 -- they ascend, and any two agree
 pub survivors-agreeing : (P T : List ℤ) → Agreeing (Agrees P) (survivors P T)
@@ -204,7 +217,10 @@ pub survivors-unstruck : (P T : List ℤ) → passing (occurs P T) (survivors P 
 unfolding survivors
 survivors-unstruck P T = rules-ended P T .unstruck
 
--- D + S ≤ N
-pub duels-and-survivors : (P T : List ℤ) → duels P T + length (survivors P T) ≤ windowsOf (length P) (length T)
-unfolding duels survivors entrants
-duels-and-survivors P T = rw length-reverse (rw (length-all (windowsOf (length P) (length T))) at (rules-ended P T .count))
+-- D + S is at most N less the struck
+pub duels-and-survivors : (P T : List ℤ) → duels P T + length (survivors P T) + struck P T ≤ windowsOf (length P) (length T)
+unfolding duels survivors entrants struck
+duels-and-survivors P T =
+    let n = length-those (isStruck P T) (windowsOf (length P) (length T)) in
+    let c = rules-ended P T .count in
+    rw length-reverse (omega arith)

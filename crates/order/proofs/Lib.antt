@@ -13,6 +13,7 @@ pub mod Entries
 pub mod Comparing
 pub mod TestByEntries
 pub mod EntrySteps
+pub mod LostStitches
 pub mod Witnessing
 pub mod Meetings
 pub mod Dueling

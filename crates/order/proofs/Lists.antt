@@ -5,7 +5,7 @@ use Prim.Native.Nat.{ℕ, zero, suc, _+_, _-_, _≤_, _<_}
 use mathlib.Core.Path.{_≡_, refl, sym, _∙_, ap, ap₂, subst}
 use mathlib.Core.Logic.{⊎-elim}
 use mathlib.Core.List.{List, [], _∷_, _++_, map, reverse, append-assoc, append-nil, reverseAux-eq, List·Memᴰ, List·Memᴰ·head, List·Memᴰ·tail, List·Memᴰ·not-nil, List·Memᴰ·append-cases, List·Memᴰ·eq-of-singleton, Memᴰ·append-left, Memᴰ·append-right}
-use mathlib.Core.Bool.{Bool, true, false, cond}
+use mathlib.Core.Bool.{Bool, true, false, not, cond, _&&_}
 use native.Mathlib.Omega.{arith}
 use native.Mathlib.Numerals.{add-one}
 use native.Mathlib.Nat.{eq-or-lt-of-le, le-of-suc-le-suc}
@@ -202,11 +202,31 @@ those-mem p (suc n) z h e =
     (λ (k : z < n). Memᴰ·append-left _ (those-mem p n z k e))
     (eq-or-lt-of-le (le-of-suc-le-suc h))
 
--- all of them, where all pass
-pub length-all : (n : ℕ) → length (those (λ x. true) n) ≡ n
+-- of those, the ones that pass a second test
+pub passing-those : (q p : ℕ → Bool) (n : ℕ) → passing p (those q n) ≡ those (λ x. q x && p x) n
+unfolding those passing
+passing-those q p zero = refl
+passing-those q p (suc n) =
+    passing-append p (those q n) (cond (q n) (n ∷ []) []) ∙ ap₂ _++_ (passing-those q p n) (go (q n))
+  where
+    go : (t : Bool) → passing p (cond t (n ∷ []) []) ≡ cond (t && p n) (n ∷ []) []
+    go true = passing-one p n
+    go false = refl
+
+-- each number below n passes a test or fails it
+length-one : (t : Bool) (n : ℕ) → length (cond t (n ∷ []) []) + length (cond (not t) (n ∷ []) []) ≡ 1
+length-one true n = refl
+length-one false n = refl
+
+pub length-those : (q : ℕ → Bool) (n : ℕ) → length (those q n) + length (those (λ x. not (q x)) n) ≡ n
 unfolding those
-length-all zero = refl
-length-all (suc n) = length-append (those (λ x. true) n) (n ∷ []) ∙ ap (λ k. k + 1) (length-all n) ∙ add-one n
+length-those q zero = refl
+length-those q (suc n) =
+    let a = length-append (those q n) (cond (q n) (n ∷ []) []) in
+    let b = length-append (those (λ x. not (q x)) n) (cond (not (q n)) (n ∷ []) []) in
+    let c = length-one (q n) n in
+    let d = length-those q n in
+    omega arith
 
 -- ascending, once each
 abbrev pub Ascending : List ℕ → Type 0

@@ -48,11 +48,6 @@ pub row-refuses : (f : Verdict → Verdict) → Row f → {why : Refusal} → f 
 row-refuses f (inl p) {why} e next = let d : accepted ≡ refused why = sym (p accepted) ∙ e in cc
 row-refuses f (inr q) e next = q .1 next ∙ sym (q .1 accepted) ∙ e
 
--- of two rows that refuse nothing neither does
-pub both-pass : (f g : Verdict → Verdict) → Row f → Row g → f (g accepted) ≡ accepted → Passing f × Passing g
-both-pass f g (inl p) s e = (p, row-passes g s (sym (p (g accepted)) ∙ e))
-both-pass f g (inr q) s e = let d : accepted ≡ refused (q .0) = sym e ∙ q .1 (g accepted) in (λ next. cc, λ next. cc)
-
 -- a condition that is passed
 pub passed : (b : Bool) (r : Refusal) (next : Verdict) → refuse b r next ≡ accepted → (b ≡ false) × (next ≡ accepted)
 passed true r next e = (cc, cc)

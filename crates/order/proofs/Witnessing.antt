@@ -12,7 +12,7 @@ use lib.IntN.{ℤ, pos}
 use lib.ListN.{length, take, drop, length-drop}
 use lib.Seq.{getD-drop, take-all}
 use borrow.Author.Tests.{not-true, not-false, leb-true}
-use Rattle.order.specs.Sizes.{Spot, none, place, at}
+use Rattle.order.specs.Sizes.{Spot, none, place, at, isNone}
 use Rattle.order.specs.Relations.{rel}
 use Rattle.order.specs.Isomorphic.{Iso}
 use Rattle.order.specs.Equivalence.{SelfAgree}
@@ -21,7 +21,7 @@ use Rattle.order.specs.Witnesses.{firstFail, neighbourAt, witnessI, witn
 use Rattle.order.proofs.Tests.{clash}
 use Rattle.order.proofs.Orders.{alike-tests, same-tests-alike}
 use Rattle.order.proofs.Lists.{Lowest, Finds, lowest-finds, finds-lowest}
-use Rattle.order.specs.Agree.{agree, isNone}
+use Rattle.order.specs.Agree.{agree}
 use Rattle.order.proofs.Equivalences.{far-apart}
 use Rattle.order.proofs.Isomorphisms.{iso-inherits}
 use Rattle.order.proofs.PlaceTests.{AllPass, tests-iso, iso-tests, FailsAt, fails-at}

@@ -1,20 +1,16 @@
 -- "Agree": which two windows the witness tables let stand beside each other.
 use Prim.Native.Nat.{ℕ, _+_, _-_}
 use mathlib.Core.List.{List}
-use mathlib.Core.Bool.{Bool, true, false, _||_}
+use mathlib.Core.Bool.{Bool, _||_}
 use lib.Dec.{leb, eqb}
 use lib.IntN.{ℤ}
 use lib.ListN.{length, getD}
-use Rattle.order.specs.Sizes.{Spot, none, place, noPlace}
+use Rattle.order.specs.Sizes.{noPlace, isNone}
 use Rattle.order.specs.Witnesses.{witnessJ}
 
 -- how far apart two windows start, whichever comes first
 abbrev pub distance : ℕ → ℕ → ℕ
 distance x y = (x - y) + (y - x)
-
-unfoldable pub isNone : Spot → Bool
-isNone none = true
-isNone (place i) = false
 
 -- windows x < y agree if they are m or more apart, or their offset has no witness
 unfoldable pub agree : List ℤ → ℕ → ℕ → Bool

@@ -1,14 +1,15 @@
--- "Duels": the windows come one after the other onto a stack. Each duels with the one on top, as long as it stands and the two do
--- not agree.
+-- "Duels": the windows without a lost stitch come one after the other onto a stack. Each duels with the one on top, as long as it
+-- stands and the two do not agree.
 use Prim.Native.Nat.{ℕ, _+_, _-_}
 use mathlib.Core.List.{List, [], _∷_, reverse}
-use mathlib.Core.Bool.{Bool, true, false, cond}
+use mathlib.Core.Bool.{Bool, true, false, not, cond}
 use lib.IntN.{ℤ}
 use lib.ListN.{length}
 use Rattle.order.specs.declared.steps.Meeting.{Meeting}
 use Rattle.order.specs.declared.steps.Meeting.the-variants.{Agree, OlderFalls, NewerFalls, BothFall}
-use Rattle.order.specs.Sizes.{Spot, none, place, at, those, windowsOf}
+use Rattle.order.specs.Sizes.{Spot, none, place, at, those, windowsOf, window}
 use Rattle.order.specs.Relations.{rel, alike}
+use Rattle.order.specs.Lost.{holdsLost}
 use Rattle.order.specs.Witnesses.{witnessI, witnessJ}
 use Rattle.order.specs.Agree.{agree}
 
@@ -62,11 +63,18 @@ unfoldable pub arriveAll : (ℕ → ℕ → Meeting) → List ℕ → Stack → 
 arriveAll meet [] s = s
 arriveAll meet (y ∷ ys) s = arriveAll meet ys (arrive meet y (s .kept) (s .fought))
 
--- the windows that take part, ascending: all N of them
-unfoldable pub entrants : List ℤ → List ℤ → List ℕ
-entrants P T = those (λ x. true) (windowsOf (length P) (length T))
+-- a window that holds a lost stitch is struck before the duels
+unfoldable pub isStruck : List ℤ → List ℤ → ℕ → Bool
+isStruck P T x = holdsLost (window T x (length P))
 
--- the stack after all windows have arrived; D; and the survivors, ascending
+-- how many are; and the windows that take part, ascending: all others
+unfoldable pub struck : List ℤ → List ℤ → ℕ
+struck P T = length (those (isStruck P T) (windowsOf (length P) (length T)))
+
+unfoldable pub entrants : List ℤ → List ℤ → List ℕ
+entrants P T = those (λ x. not (isStruck P T x)) (windowsOf (length P) (length T))
+
+-- the stack after all of these have arrived; D; and the survivors, ascending
 unfoldable pub duelled : List ℤ → List ℤ → Stack
 duelled P T = arriveAll (meets P T) (entrants P T) (stacked [] 0)
 

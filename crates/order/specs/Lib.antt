@@ -2,6 +2,7 @@
 -- `EntryTest` are no rules: the first names what the laws rest on, the second what the code's test of a place does.
 pub mod Sizes
 pub mod Relations
+pub mod Lost
 pub mod Isomorphic
 pub mod Equivalence
 pub mod Neighbours

@@ -10,8 +10,9 @@ use Rattle.order.specs.declared.refusal.Table.the-variants.{Low, High, W
 use Rattle.order.specs.declared.refusal.Fault.{Fault}
 use Rattle.order.specs.declared.refusal.Fault.the-variants.{LongLead, ManySamples, ShortBuffer}
 use Rattle.order.specs.declared.refusal.Refusal.{Refusal}
-use Rattle.order.specs.declared.refusal.Refusal.the-variants.{EmptyPattern, LongPattern, ShortTable, LongTrace, ShortSurvivors, ShortPositions, ShortRecording, WrongMark, WrongDistance, LongDistance, ShortSamples, LongInput, ForeignEntry, Unplaced}
+use Rattle.order.specs.declared.refusal.Refusal.the-variants.{EmptyPattern, LongPattern, ShortTable, LongTrace, ShortSurvivors, ShortPositions, ShortRecording, WrongMark, WrongDistance, LongDistance, ShortSamples, LongInput, ForeignEntry, LostStitch, Unplaced}
 use Rattle.order.specs.Sizes.{Spot, none, place, entry, lowest, patternLimit, traceLimit, recordingLimit, inputLimit, windowsOf}
+use Rattle.order.specs.Lost.{firstLost}
 use Rattle.order.specs.Neighbours.{lowOf, highOf}
 use Rattle.order.specs.Witnesses.{witnessI, witnessJ}
 use Rattle.order.specs.Recordings.{trailerSize, recordingSize, distanceBack, sampleCount, marked}
@@ -49,6 +50,7 @@ numberOf (LongDistance p) = 11
 numberOf (ShortSamples n) = 12
 numberOf LongInput = 13
 numberOf (ForeignEntry t k) = foreignNumber t
+numberOf (LostStitch p) = 21
 numberOf (Unplaced f) = faultNumber f
 
 abbrev pub placeOf : Refusal → ℕ
@@ -65,6 +67,7 @@ placeOf (LongDistance p) = p
 placeOf (ShortSamples n) = n
 placeOf LongInput = inputLimit
 placeOf (ForeignEntry t k) = k
+placeOf (LostStitch p) = p
 placeOf (Unplaced f) = 0
 
 -- what the conditions of a call come to
@@ -95,6 +98,10 @@ refuseAt none r next = next
 unfoldable pub patternVerdict : ℕ → Verdict → Verdict
 patternVerdict m next = refuse (eqb m 0) EmptyPattern (refuse (ltb patternLimit m) (LongPattern m) next)
 
+-- 21, on the pattern's samples
+unfoldable pub stitchesVerdict : List ℤ → Verdict → Verdict
+stitchesVerdict P next = refuseAt (firstLost P) LostStitch next
+
 -- 3, on the lengths of the witness tables, and of all four
 unfoldable pub witnessesVerdict : ℕ → ℕ → ℕ → Verdict → Verdict
 witnessesVerdict m wi wj next = refuse (ltb wi m) (ShortTable WitnessI) (refuse (ltb wj m) (ShortTable WitnessJ) next)
@@ -103,11 +110,11 @@ unfoldable pub tablesVerdict : ℕ → ℕ → ℕ → ℕ → ℕ → Verdict �
 tablesVerdict m low high wi wj next =
     refuse (ltb low m) (ShortTable Low) (refuse (ltb high m) (ShortTable High) (witnessesVerdict m wi wj next))
 
--- preparation: 1 to 3
-unfoldable pub prepareVerdict : ℕ → ℕ → ℕ → ℕ → ℕ → Verdict
-prepareVerdict m low high wi wj = patternVerdict m (tablesVerdict m low high wi wj accepted)
+-- preparation, on the pattern and the lengths of the tables: 1, 2, 21 and 3
+unfoldable pub prepareVerdict : List ℤ → ℕ → ℕ → ℕ → ℕ → Verdict
+prepareVerdict P low high wi wj = patternVerdict (length P) (stitchesVerdict P (tablesVerdict (length P) low high wi wj accepted))
 
--- the call on two windows: 1 to 3, on the witness tables
+-- the call on two windows, which has a pattern's length alone: 1 to 3, on the witness tables
 unfoldable pub agreeVerdict : ℕ → ℕ → ℕ → Verdict
 agreeVerdict m wi wj = patternVerdict m (witnessesVerdict m wi wj accepted)
 
@@ -130,13 +137,14 @@ ownVerdict P low high wi wj =
     (refuseAt (lowest (foreignAt wi (witnessI P)) (length P)) (ForeignEntry WitnessI)
     (refuseAt (lowest (foreignAt wj (witnessJ P)) (length P)) (ForeignEntry WitnessJ) accepted)))
 
--- search: 1 to 6, then 14 to 17
+-- search: 1, 2 and 21, then 3 to 6, then 14 to 17
 unfoldable pub searchVerdict : List ℤ → List ℕ → List ℕ → List ℕ → List ℕ → List ℤ → ℕ → ℕ → Verdict
 searchVerdict P low high wi wj T survivors positions =
     patternVerdict (length P)
+    (stitchesVerdict P
     (tablesVerdict (length P) (length low) (length high) (length wi) (length wj)
     (roomVerdict (length P) (length T) survivors positions
-    (ownVerdict P low high wi wj)))
+    (ownVerdict P low high wi wj))))
 
 -- 8 and 9: the bytes end with a trailer
 unfoldable pub trailerVerdict : List ℕ → Verdict → Verdict

@@ -1,7 +1,7 @@
 -- "Sizes": the limits, windows and their number, and how a list is made of the numbers below another, or of those of a list.
 use Prim.Native.Nat.{ℕ, zero, suc, _+_, _-_}
 use mathlib.Core.List.{List, [], _∷_, _++_}
-use mathlib.Core.Bool.{Bool, cond}
+use mathlib.Core.Bool.{Bool, true, false, cond}
 use lib.Dec.{leb}
 use lib.IntN.{ℤ, pos}
 use lib.ListN.{getD, take, drop}
@@ -37,6 +37,10 @@ asPlace i = record { 0 = i }
 pub data Spot : Type 0 where
   none : Spot
   place : ℕ → Spot
+
+unfoldable pub isNone : Spot → Bool
+isNone none = true
+isNone (place i) = false
 
 -- a place as a table holds it
 unfoldable pub entry : Spot → ℕ

@@ -14,6 +14,7 @@ pub use kinds::Offset;
 pub use kinds::Place;
 pub use kinds::Window;
 pub use limits::INPUT_LIMIT;
+pub use limits::LOST;
 pub use limits::NONE;
 pub use limits::PATTERN_LIMIT;
 pub use limits::RECORDING_LIMIT;

@@ -1,4 +1,4 @@
-// The sizes that the rules fix. Follows docs/RULES.md, "Sizes".
+// The sizes that the rules fix, and the numbers that they give a meaning. Follows docs/RULES.md, "Sizes" and "Lost stitches".
 
 // The longest pattern, in samples.
 pub const PATTERN_LIMIT: usize = 1024;
@@ -17,3 +17,6 @@ pub const NONE: u16 = 65535;
 
 // An entry of the survivors or positions buffer that holds no window.
 pub const UNUSED: u32 = 4294967295;
+
+// A sample that is no tension: a lost stitch.
+pub const LOST: i32 = -2147483648;

@@ -75,6 +75,8 @@ pub enum Refusal {
     LongInput,
     // a table, and the lowest of its entries that is not the pattern's own
     ForeignEntry(Table, usize),
+    // the pattern's first lost stitch
+    LostStitch(usize),
     Unplaced(Fault),
 }
 
@@ -97,6 +99,7 @@ impl Refusal {
             Refusal::ShortSamples(_) => 12,
             Refusal::LongInput => 13,
             Refusal::ForeignEntry(t, _) => t.foreign_number(),
+            Refusal::LostStitch(_) => 21,
             Refusal::Unplaced(f) => f.number(),
         }
     }
@@ -119,6 +122,7 @@ impl Refusal {
             Refusal::ShortSamples(count) => count,
             Refusal::LongInput => INPUT_LIMIT,
             Refusal::ForeignEntry(_, at) => at,
+            Refusal::LostStitch(at) => at,
             Refusal::Unplaced(_) => 0,
         }
     }

@@ -29,4 +29,6 @@ pub struct Counts {
     pub sweep: u32,
     // R: the positions listed.
     pub found: u32,
+    // The windows that hold a lost stitch, which are struck before the duels.
+    pub struck: u32,
 }

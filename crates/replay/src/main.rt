@@ -106,7 +106,8 @@ fn show_counts(c: Counts) {
     number(wide32(c.windows));
     number(wide32(c.duels));
     number(wide32(c.survivors));
-    pair(wide32(c.sweep), wide32(c.found));
+    number(wide32(c.sweep));
+    pair(wide32(c.found), wide32(c.struck));
 }
 
 fn show_searched(answer: Searched) {

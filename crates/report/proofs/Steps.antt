@@ -81,7 +81,7 @@ pub record AtPattern (text lead : List ℕ) (T : List ℤ) : Type 0 where
   pub left : text ≡ afterPattern lead T (readVerdict lead patternRoom)
 
 pub record AtPreparation (text : List ℕ) (P T : List ℤ) : Type 0 where
-  pub left : text ≡ afterPreparation P T (prepareVerdict (length P) patternRoom patternRoom patternRoom patternRoom)
+  pub left : text ≡ afterPreparation P T (prepareVerdict P patternRoom patternRoom patternRoom patternRoom)
 
 pub record AtSearch (text : List ℕ) (P : List ℤ) (low high wi wj : List ℕ) (T : List ℤ) : Type 0 where
   pub left : text ≡ afterSearch P T (searchVerdict P low high wi wj T traceRoom traceRoom)
@@ -127,7 +127,7 @@ module _ {text lead : List ℕ} {T : List ℤ} (e : AtPattern text lead T)
   pattern-read {n} {at} d =
       record {
         left = e .left ∙ ap (afterPattern lead T) (same-room ∙ from p d .0) ∙
-            ap (λ (P : List ℤ). afterPreparation P T (prepareVerdict (length P) patternRoom patternRoom patternRoom patternRoom)) (sym (samples-are p d));
+            ap (λ (P : List ℤ). afterPreparation P T (prepareVerdict P patternRoom patternRoom patternRoom patternRoom)) (sym (samples-are p d));
       }
 
 -- ---- preparation
@@ -139,9 +139,9 @@ blank-long = length-replicate {A = ℕ} patternRoom 0
 module _ {text : List ℕ} {P T : List ℤ} (e : AtPreparation text P T) {r : Prepared} {low₀ high₀ wi₀ wj₀ low high wi wj : List ℕ}
     (p : PreparePromise P low₀ high₀ wi₀ wj₀ r low high wi wj) (a : low₀ ≡ blank) (b : high₀ ≡ blank) (c : wi₀ ≡ blank) (d : wj₀ ≡ blank) where
   abbrev verdict : Verdict
-  verdict = prepareVerdict (length P) (length low₀) (length high₀) (length wi₀) (length wj₀)
+  verdict = prepareVerdict P (length low₀) (length high₀) (length wi₀) (length wj₀)
 
-  same-verdict : prepareVerdict (length P) patternRoom patternRoom patternRoom patternRoom ≡ verdict
+  same-verdict : prepareVerdict P patternRoom patternRoom patternRoom patternRoom ≡ verdict
   same-verdict = rw (ap length a ∙ blank-long, ap length b ∙ blank-long, ap length c ∙ blank-long, ap length d ∙ blank-long) refl
 
   pub prepare-refused : {why : Refusal} → r ≡ NotPrepared why → text ≡ refusalLine (ascii "search") why

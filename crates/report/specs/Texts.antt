@@ -79,7 +79,7 @@ afterPreparation P T (refused why) = refusalLine (ascii "search") why
 -- the pattern, read from the bytes before the trace's first sample
 unfoldable pub afterPattern : List ℕ → List ℤ → Verdict → List ℕ
 afterPattern lead T accepted =
-    afterPreparation (samplesOf lead) T (prepareVerdict (length (samplesOf lead)) patternRoom patternRoom patternRoom patternRoom)
+    afterPreparation (samplesOf lead) T (prepareVerdict (samplesOf lead) patternRoom patternRoom patternRoom patternRoom)
 afterPattern lead T (refused why) = refusalLine (ascii "pattern") why
 
 -- the trace, read from the whole input

@@ -12,11 +12,11 @@ use lib.ListN.{length, getD, length-reverse}
 use borrow.Author.Tests.{le-leb, lt-leb, leb-true, leb-false}
 use Rattle.order.specs.declared.refusal.Refusal.{Refusal}
 use Rattle.order.specs.declared.steps.Meeting.the-variants.{Agree}
-use Rattle.order.specs.Sizes.{Spot, none, place, at, entry, noPlace}
+use Rattle.order.specs.Sizes.{Spot, none, place, isNone, at, entry, noPlace}
 use Rattle.order.specs.Relations.{rel}
 use Rattle.order.specs.Witnesses.{witnessI, witnessJ}
-use Rattle.order.specs.Agree.{isNone, agree}
-use Rattle.order.specs.Duels.{duel, byWitness, meets, stacked, entrants, duelled, duels, survivors}
+use Rattle.order.specs.Agree.{agree}
+use Rattle.order.specs.Duels.{duel, byWitness, meets, stacked, struck, entrants, duelled, duels, survivors}
 use Rattle.order.specs.Refusals.{accepted}
 use Rattle.order.proofs.Dueling.{arrive-alike}
 use Rattle.order.proofs.Witnessing.{witness-is, none-together}
@@ -93,21 +93,22 @@ module _ {P : List ℤ} {wi wj : List ℕ} {T : List ℤ} {before after : List �
   passed : duelVerdict (length P) (length wi) (length wj) (length T) (length before) ≡ accepted
   passed = duels-accepted (length P) (length wi) (length wj) (length T) (length before) (a .some) (a .own .limit) (a .own .i-long) (a .own .j-long) (a .trace) (a .room)
 
-  answered : r ≡ Done (duelledOf (duelled P T))
-  answered = p .answer ∙ rw (passed, all-clear P wi wj (own-clear (a .own))) (ap (λ s. Done (duelledOf s)) (own-stack T (a .own)))
+  answered : r ≡ Done (duelledOf (duelled P T) (struck P T))
+  answered = p .answer ∙ rw (passed, all-clear P wi wj (own-clear (a .own))) (ap (λ s. Done (duelledOf s (struck P T))) (own-stack T (a .own)))
 
   pub never-refused : {why : Refusal} → r ≡ Refused why → ⊥
-  never-refused {why} e = let q : Refused why ≡ Done (duelledOf (duelled P T)) = sym e ∙ answered in let z : _≡_ {A = ℕ} 0 1 = cc in omega arith
+  never-refused {why} e = let q : Refused why ≡ Done (duelledOf (duelled P T) (struck P T)) = sym e ∙ answered in let z : _≡_ {A = ℕ} 0 1 = cc in omega arith
 
   pub never-untold : {o : ℕ} → r ≡ Untold o → ⊥
-  never-untold {o} e = let q : Untold o ≡ Done (duelledOf (duelled P T)) = sym e ∙ answered in let z : _≡_ {A = ℕ} 0 1 = cc in omega arith
+  never-untold {o} e = let q : Untold o ≡ Done (duelledOf (duelled P T) (struck P T)) = sym e ∙ answered in let z : _≡_ {A = ℕ} 0 1 = cc in omega arith
 
-  pub survivors-out : {d : Duelled} → r ≡ Done d → SurvivorsOf P T before after (d .kept) (d .fought)
+  pub survivors-out : {d : Duelled} → r ≡ Done d → SurvivorsOf P T before after d
   unfolding survivors duels
   survivors-out {d} e =
-      let same : d ≡ duelledOf (duelled P T) = cc (answered) in
+      let same : d ≡ duelledOf (duelled P T) (struck P T) = cc (answered) in
       record {
         number = ap (λ (d : Duelled). d .kept) same ∙ sym (length-reverse (duelled P T .kept));
         fought-is = ap (λ (d : Duelled). d .fought) same;
+        struck-is = ap (λ (d : Duelled). d .struck) same;
         written = p .survivors-after ∙ rw (e, own-stack T (a .own)) refl;
       }

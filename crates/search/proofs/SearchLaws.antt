@@ -24,7 +24,7 @@ use Rattle.search.specs.declared.answers.Searched.the-variants.{Done, Re
 use Rattle.sizes.specs.Answers.{fittingBy}
 use Rattle.search.specs.Inside.Asked.{Searchable, SearchedOf}
 use Rattle.search.specs.SearchPromise.{SearchPromise}
-use Rattle.sizes.proofs.Verdicts.{fit-accepted, unfit-why, pattern-passed, tables-passed, room-passed}
+use Rattle.sizes.proofs.Verdicts.{fit-accepted, unfit-why, pattern-passed, stitches-passed, tables-passed, room-passed}
 use Rattle.tables.proofs.ForeignEntries.{accepted-own}
 use Rattle.lists.proofs.FilledUp.{filled-over}
 use Rattle.search.proofs.WrittenOut.{positions-few}
@@ -37,7 +37,8 @@ unfolding searchVerdict
 search-ready P low high wi wj T s p f =
     let v = fit-accepted (searchVerdict P low high wi wj T s p) (windowsOf (length P) (length T)) f in
     let a = pattern-passed (length P) _ (v .0) in
-    let b = tables-passed (length P) (length low) (length high) (length wi) (length wj) _ (a .2) in
+    let l = stitches-passed P _ (a .2) in
+    let b = tables-passed (length P) (length low) (length high) (length wi) (length wj) _ (l .1) in
     let c = room-passed (length P) (length T) s p _ (b .4) in
     let o = accepted-own P low high wi wj (c .3) in
     record {

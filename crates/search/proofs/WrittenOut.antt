@@ -15,6 +15,7 @@ use Rattle.order.specs.Written.{countsOf, over, filled}
 use Rattle.order.proofs.Dueling.{duels-and-survivors}
 use Rattle.order.proofs.SweepLaws.{sweep-fails, sweep-lists-same}
 use Rattle.lists.proofs.FilledUp.{filled-over, written-out}
+use Rattle.duels.specs.declared.answers.Duelled.{Duelled}
 use Rattle.search.specs.Inside.Sweeps.{SweepOf}
 use Rattle.search.specs.Inside.Asked.{SurvivorsOf, SearchedOf}
 
@@ -52,9 +53,9 @@ positions-out {P} {T} {kept} {windows} {before} {after} {end} {spent} {wasted} {
 -- ---- the two together
 
 -- the survivors in the buffer that the duels leave
-pub survivors-held : {P T : List ℤ} {before after : List ℕ} {kept fought : ℕ} → SurvivorsOf P T before after kept fought → windowsOf (length P) (length T) ≤ length before
-    → (take kept after ≡ survivors P T) × (kept ≤ length after) × (kept ≤ windowsOf (length P) (length T))
-survivors-held {P} {T} {before} {after} {kept} s h =
+pub survivors-held : {P T : List ℤ} {before after : List ℕ} {d : Duelled} → SurvivorsOf P T before after d → windowsOf (length P) (length T) ≤ length before
+    → (take (d .kept) after ≡ survivors P T) × (d .kept ≤ length after) × (d .kept ≤ windowsOf (length P) (length T))
+survivors-held {P} {T} {before} {after} s h =
     let d = duels-and-survivors P T in
     let n = s .number in
     let few : length (survivors P T) ≤ windowsOf (length P) (length T) = omega arith in
@@ -62,13 +63,13 @@ survivors-held {P} {T} {before} {after} {kept} s h =
     let long : length (survivors P T) ≤ length after = rw (w, length-append) (omega arith) in
     (ap₂ take n w ∙ take-at (survivors P T) _ (length (survivors P T)) refl, (omega arith), (omega arith))
 
-pub searched : {P T : List ℤ} {kept listed kept' listed' : List ℕ} {windows k fought spent found : ℕ} → windows ≡ windowsOf (length P) (length T)
-    → SurvivorsOf P T kept kept' k fought → PositionsOf P T listed listed' spent found
-    → SearchedOf P T kept listed kept' listed' (record { windows = windows; duels = fought; survivors = k; sweep = spent; found = found })
+pub searched : {P T : List ℤ} {kept listed kept' listed' : List ℕ} {windows spent found : ℕ} {d : Duelled} → windows ≡ windowsOf (length P) (length T)
+    → SurvivorsOf P T kept kept' d → PositionsOf P T listed listed' spent found
+    → SearchedOf P T kept listed kept' listed' (record { windows = windows; duels = d .fought; survivors = d .kept; sweep = spent; found = found; struck = d .struck })
 unfolding countsOf
 searched e s p =
     record {
-      counts = rw (e, s .fought-is, s .number, p .spent-is, p .number) refl;
+      counts = rw (e, s .fought-is, s .number, s .struck-is, p .spent-is, p .number) refl;
       survivors-written = s .written;
       positions-written = p .written;
     }

@@ -37,7 +37,7 @@ pub record SearchPromise (P : List ℤ) (low high wi wj : List ℕ) (T : List �
   -- the refusal number, 0 if accepted, and the place
   pub number : searchedNumber r ≡ verdictNumber (searchVerdict P low high wi wj T (length kept) (length listed))
   pub place : searchedPlace r ≡ verdictPlace (searchVerdict P low high wi wj T (length kept) (length listed))
-  -- the answer: N, D, S, W and R, or the refusal
+  -- the answer: N, D, S, W, R and the number struck, or the refusal
   pub answer : r ≡ searchedBy (searchVerdict P low high wi wj T (length kept) (length listed)) (countsOf P T)
   -- each buffer: the list, then "unused" up to entry N − 1, then what it held; as it was if refused
   pub survivors-after : kept' ≡ afterVerdict (searchVerdict P low high wi wj T (length kept) (length listed)) (filled (survivors P T) (windowsOf (length P) (length T))) kept

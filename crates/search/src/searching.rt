@@ -1,9 +1,9 @@
 // Search: what a pattern, with its tables, has for survivors and matches in a trace, and what finding them counts.
 //
-// Follows docs/RULES.md, "Duels", "Sweep", "Counts", "What is written" and "Refusals" (Jargalsaikhan 2022, section 3). Sizes
-// are looked at first, then the tables, then the work is done: a refused call has stored nothing. The duels make D comparisons of the
-// trace and the sweep at most 2(n + S), blocks and looks that fail counted in; the pattern is compared with itself besides, twice for
-// each offset with a witness or once (duels/codes.rt, course.rt). `tables::check_tables` says what the check of the tables takes.
+// Follows docs/RULES.md, "Duels", "Sweep", "Counts", "What is written" and "Refusals" (Jargalsaikhan 2022, section 3). The pattern and the
+// sizes are looked at first, then the tables, then the work is done: a refused call has stored nothing. The duels make D comparisons of the
+// trace and the sweep at most 2(n + S), blocks and looks that fail counted in; the pattern is compared with itself besides, twice for each
+// offset with a witness or once (duels/codes.rt, course.rt). `tables::check_tables` says what the check of the tables takes.
 
 use crate::answers::Searched;
 use crate::course::Course;
@@ -28,7 +28,8 @@ ghost use Rattle.search.specs.Inside.Courses.{Chosen};
 ghost use Rattle.search.specs.Inside.Sweeps.{SweepOf};
 ghost use Rattle.search.specs.SearchPromise.{SearchPromise};
 
-// All the conditions of a search, in the order of their numbers; where none holds, the number of windows.
+// All the conditions of a search, in their order; where none holds, the number of windows. Where there is room, the check of the tables
+// tries all that is left, and the pattern is looked at once.
 fn check_search(
     pattern: &[i32],
     low: &[u16],
@@ -41,23 +42,24 @@ fn check_search(
 ) -> Fitting
     ensures { λ r. ⌜ r ≡ fittingBy (searchVerdict (now (pattern .entry)) (now (low .entry)) (now (high .entry)) (now («witness_i» .entry)) (now («witness_j» .entry)) (now (trace .entry)) survivors positions) (windowsOf (length (now (pattern .entry))) (length (now (trace .entry)))) ⌝ }
 {
-    match sizes::for_search(
-        pattern.len(),
-        low.len(),
-        high.len(),
-        witness_i.len(),
-        witness_j.len(),
-        trace.len(),
-        survivors,
-        positions,
-    ) {
-        Fitting::Refused(why) => Fitting::Refused(why),
+    match sizes::for_room(pattern.len(), trace.len(), survivors, positions) {
         Fitting::Fit(windows) => {
             match tables::check_tables(pattern, low, high, witness_i, witness_j) {
                 Checked::Refused(why) => Fitting::Refused(why),
                 Checked::Fine => Fitting::Fit(windows),
             }
         }
+        // what comes before the room in their order may refuse as well
+        Fitting::Refused(_) => sizes::for_search(
+            pattern,
+            low.len(),
+            high.len(),
+            witness_i.len(),
+            witness_j.len(),
+            trace.len(),
+            survivors,
+            positions,
+        ),
     }
 }
 
@@ -70,13 +72,21 @@ fn keep_windows(
     survivors: &mut [u32],
 ) -> Duelled
     requires { ⌜ Dueling (now pattern) (now «witness_i») (now «witness_j») (now trace) (now survivors) ⌝ }
-    ensures { λ r. ⌜ SurvivorsOf (now (pattern .entry)) (now (trace .entry)) (now (survivors .entry)) (now (survivors .exit)) (r .kept) (r .fought) ⌝ }
+    ensures { λ r. ⌜ SurvivorsOf (now (pattern .entry)) (now (trace .entry)) (now (survivors .entry)) (now (survivors .exit)) r ⌝ }
 {
     match duel_windows(pattern, witness_i, witness_j, trace, survivors) {
         Duels::Done(duelled) => duelled,
-        // never, since lengths and entries were looked at
-        Duels::Refused(_) => Duelled { kept: 0, fought: 0 },
-        Duels::Untold(_) => Duelled { kept: 0, fought: 0 },
+        // never, since the pattern, lengths and entries were looked at
+        Duels::Refused(_) => Duelled {
+            kept: 0,
+            fought: 0,
+            struck: 0,
+        },
+        Duels::Untold(_) => Duelled {
+            kept: 0,
+            fought: 0,
+            struck: 0,
+        },
     }
 }
 
@@ -136,6 +146,7 @@ fn run(
         survivors: kept as u32,
         sweep: swept.spent,
         found: found as u32,
+        struck: duelled.struck,
     }
 }
 

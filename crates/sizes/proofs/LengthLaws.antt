@@ -1,7 +1,10 @@
--- Shows: the look at the lengths meets its promise, row by row, and no second answer satisfies it.
+-- Shows: the look at what a search is handed meets its promise, row by row, and no second answer satisfies it.
 -- Assumes nothing.
 use Prim.Native.Nat.{ℕ}
 use mathlib.Core.Path.{_≡_, refl, sym, _∙_, ap}
+use mathlib.Core.List.{List}
+use lib.IntN.{ℤ}
+use lib.ListN.{length}
 use Rattle.order.specs.declared.refusal.Refusal.{Refusal}
 use Rattle.order.specs.Sizes.{windowsOf}
 use Rattle.order.specs.Refusals.{Verdict, accepted, refused, prepareVerdict, roomVerdict, verdictNumber, verdictPlace}
@@ -9,7 +12,7 @@ use Rattle.sizes.specs.declared.answers.Checked.the-variants.{Fine, Refu
 use Rattle.sizes.specs.declared.answers.Fitting.{Fitting}
 use Rattle.sizes.specs.declared.answers.Fitting.the-variants.{Refused as Unfit}
 use Rattle.sizes.specs.Answers.{checkedBy, fittingNumber, fittingPlace, fittingBy}
-use Rattle.sizes.specs.Lengths.{lengthsVerdict, LengthsPromise}
+use Rattle.sizes.specs.Lengths.{fittingVerdict, FittingPromise}
 use Rattle.sizes.proofs.VerdictRows.{sizes-through, sizes-stay}
 
 numbered : (v : Verdict) (w : ℕ) → fittingNumber (fittingBy v w) ≡ verdictNumber v
@@ -20,24 +23,24 @@ placed : (v : Verdict) (w : ℕ) → fittingPlace (fittingBy v w) ≡ verdictPla
 placed accepted w = refl
 placed (refused r) w = refl
 
-module _ (m low high wi wj n survivors positions : ℕ) where
-  promised : {r : Fitting} → r ≡ fittingBy (lengthsVerdict m low high wi wj n survivors positions) (windowsOf m n) → LengthsPromise m low high wi wj n survivors positions r
+module _ (P : List ℤ) (low high wi wj n survivors positions : ℕ) where
+  promised : {r : Fitting} → r ≡ fittingBy (fittingVerdict P low high wi wj n survivors positions) (windowsOf (length P) n) → FittingPromise P low high wi wj n survivors positions r
   promised e =
       record {
-        number = ap fittingNumber e ∙ numbered (lengthsVerdict m low high wi wj n survivors positions) (windowsOf m n);
-        place = ap fittingPlace e ∙ placed (lengthsVerdict m low high wi wj n survivors positions) (windowsOf m n);
+        number = ap fittingNumber e ∙ numbered (fittingVerdict P low high wi wj n survivors positions) (windowsOf (length P) n);
+        place = ap fittingPlace e ∙ placed (fittingVerdict P low high wi wj n survivors positions) (windowsOf (length P) n);
         answer = e;
       }
 
-  pub lengths-refused : (why : Refusal) → Refused why ≡ checkedBy (prepareVerdict m low high wi wj) → LengthsPromise m low high wi wj n survivors positions (Unfit why)
-  unfolding lengthsVerdict
-  lengths-refused why e = promised (rw (sizes-stay m low high wi wj why e (roomVerdict m n survivors positions accepted)) refl)
+  pub fitting-refused : (why : Refusal) → Refused why ≡ checkedBy (prepareVerdict P low high wi wj) → FittingPromise P low high wi wj n survivors positions (Unfit why)
+  unfolding fittingVerdict
+  fitting-refused why e = promised (rw (sizes-stay P low high wi wj why e (roomVerdict (length P) n survivors positions accepted)) refl)
 
-  pub lengths-fit : {r : Fitting} → Fine ≡ checkedBy (prepareVerdict m low high wi wj) → r ≡ fittingBy (roomVerdict m n survivors positions accepted) (windowsOf m n)
-      → LengthsPromise m low high wi wj n survivors positions r
-  unfolding lengthsVerdict
-  lengths-fit e f = promised (f ∙ ap (λ v. fittingBy v (windowsOf m n)) (sym (sizes-through m low high wi wj e (roomVerdict m n survivors positions accepted))))
+  pub fitting-fit : {r : Fitting} → Fine ≡ checkedBy (prepareVerdict P low high wi wj) → r ≡ fittingBy (roomVerdict (length P) n survivors positions accepted) (windowsOf (length P) n)
+      → FittingPromise P low high wi wj n survivors positions r
+  unfolding fittingVerdict
+  fitting-fit e f = promised (f ∙ ap (λ v. fittingBy v (windowsOf (length P) n)) (sym (sizes-through P low high wi wj e (roomVerdict (length P) n survivors positions accepted))))
 
   -- no second answer
-  pub lengths-only-answer : {r s : Fitting} → LengthsPromise m low high wi wj n survivors positions r → LengthsPromise m low high wi wj n survivors positions s → r ≡ s
-  lengths-only-answer p q = p .answer ∙ sym (q .answer)
+  pub fitting-only-answer : {r s : Fitting} → FittingPromise P low high wi wj n survivors positions r → FittingPromise P low high wi wj n survivors positions s → r ≡ s
+  fitting-only-answer p q = p .answer ∙ sym (q .answer)

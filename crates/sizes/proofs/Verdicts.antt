@@ -1,17 +1,21 @@
--- Shows: the verdict behind the answer of a row of conditions, and what holds of the lengths where all are passed.
+-- Shows: the verdict behind the answer of a row of conditions, and what holds of a pattern and of lengths where all are passed.
 -- Assumes nothing.
 use mathlib.Core.Path.{_≡_, refl}
 use Prim.Native.Nat.{ℕ, _≤_, _<_}
 use native.Mathlib.Nat.{pos-of-ne-zero}
+use mathlib.Core.List.{List}
 use lib.Dec.{ltb, eqb}
+use lib.IntN.{ℤ}
+use lib.ListN.{length}
 use native.Mathlib.Omega.{arith}
 use borrow.Author.Tests.{eqb-false, ltb-false, le-ltb}
 use Rattle.order.specs.declared.refusal.Table.the-variants.{Low, High, WitnessI, WitnessJ}
 use Rattle.order.specs.declared.refusal.Refusal.{Refusal}
-use Rattle.order.specs.declared.refusal.Refusal.the-variants.{EmptyPattern, LongPattern, ShortTable}
-use Rattle.order.specs.Sizes.{patternLimit, traceLimit, windowsOf}
-use Rattle.order.specs.Refusals.{Verdict, accepted, refused, refuse, patternVerdict, witnessesVerdict, tablesVerdict, prepareVerdict, agreeVerdict, roomVerdict}
-use Rattle.order.proofs.Rows.{passed}
+use Rattle.order.specs.declared.refusal.Refusal.the-variants.{EmptyPattern, LongPattern, ShortTable, LostStitch}
+use Rattle.order.specs.Sizes.{none, patternLimit, traceLimit, windowsOf}
+use Rattle.order.specs.Lost.{firstLost}
+use Rattle.order.specs.Refusals.{Verdict, accepted, refused, refuse, patternVerdict, stitchesVerdict, witnessesVerdict, tablesVerdict, prepareVerdict, agreeVerdict, roomVerdict}
+use Rattle.order.proofs.Rows.{passed, passed-at}
 use Rattle.sizes.specs.declared.answers.Checked.the-variants.{Fine, Refused}
 use Rattle.sizes.specs.Answers.{checkedBy, fittingBy}
 use Rattle.sizes.specs.declared.answers.Fitting.the-variants.{Fit, Refused as Unfit}
@@ -42,6 +46,10 @@ pattern-passed m next e =
     let f : m ≡ 0 → ⊥ = eqb-false m 0 (a .0) in
     (pos-of-ne-zero f, ltb-false patternLimit m (b .0), b .1)
 
+pub stitches-passed : (P : List ℤ) (next : Verdict) → stitchesVerdict P next ≡ accepted → (firstLost P ≡ none) × (next ≡ accepted)
+unfolding stitchesVerdict
+stitches-passed P next e = passed-at (firstLost P) LostStitch next e
+
 pub witnesses-passed : (m wi wj : ℕ) (next : Verdict) → witnessesVerdict m wi wj next ≡ accepted → (m ≤ wi) × (m ≤ wj) × (next ≡ accepted)
 unfolding witnessesVerdict
 witnesses-passed m wi wj next e =
@@ -67,15 +75,28 @@ room-passed m n survivors positions next e =
     let c = passed (ltb positions (windowsOf m n)) _ _ (b .1) in
     (ltb-false traceLimit n (a .0), ltb-false survivors (windowsOf m n) (b .0), ltb-false positions (windowsOf m n) (c .0), c .1)
 
--- lengths that preparation accepts
-pub prepare-room : (m low high wi wj : ℕ) → prepareVerdict m low high wi wj ≡ accepted → Room m low high wi wj
+-- what preparation accepts
+pub prepare-room : (P : List ℤ) (low high wi wj : ℕ) → prepareVerdict P low high wi wj ≡ accepted → Room (length P) low high wi wj
 unfolding prepareVerdict
-prepare-room m low high wi wj e =
-    let p = pattern-passed m (tablesVerdict m low high wi wj accepted) e in
-    let t = tables-passed m low high wi wj accepted (p .2) in
+prepare-room P low high wi wj e =
+    let p = pattern-passed (length P) (stitchesVerdict P (tablesVerdict (length P) low high wi wj accepted)) e in
+    let q = stitches-passed P (tablesVerdict (length P) low high wi wj accepted) (p .2) in
+    let t = tables-passed (length P) low high wi wj accepted (q .1) in
     record { some = p .0; limit = p .1; low-room = t .0; high-room = t .1; witness-i-room = t .2; witness-j-room = t .3 }
 
+pub prepare-unlost : (P : List ℤ) (low high wi wj : ℕ) → prepareVerdict P low high wi wj ≡ accepted → firstLost P ≡ none
+unfolding prepareVerdict
+prepare-unlost P low high wi wj e =
+    let p = pattern-passed (length P) (stitchesVerdict P (tablesVerdict (length P) low high wi wj accepted)) e in
+    stitches-passed P (tablesVerdict (length P) low high wi wj accepted) (p .2) .0
+
 -- the call on two windows has no neighbour tables: as if these had an entry for each sample
-pub agree-sizes : (m wi wj : ℕ) → prepareVerdict m m m wi wj ≡ agreeVerdict m wi wj
-unfolding prepareVerdict agreeVerdict tablesVerdict
-agree-sizes m wi wj = rw (le-ltb m m (omega arith)) refl
+pub own-room : (m wi wj : ℕ) (next : Verdict) → tablesVerdict m m m wi wj next ≡ witnessesVerdict m wi wj next
+unfolding tablesVerdict
+own-room m wi wj next = rw (le-ltb m m (omega arith)) refl
+
+pub agree-room : (m wi wj : ℕ) → agreeVerdict m wi wj ≡ accepted → m ≤ wi
+unfolding agreeVerdict
+agree-room m wi wj e =
+    let p = pattern-passed m (witnessesVerdict m wi wj accepted) e in
+    witnesses-passed m wi wj accepted (p .2) .0

@@ -20,7 +20,7 @@ abbrev pub checkedBy : Verdict → Checked
 checkedBy accepted = Fine
 checkedBy (refused r) = Refused r
 
--- ---- a search's lengths
+-- ---- what a search is handed
 
 abbrev pub fittingNumber : Fitting → ℕ
 fittingNumber (Fit n) = 0

@@ -9,7 +9,7 @@ pub enum Checked {
     Refused(Refusal),
 }
 
-// The same of a search's lengths, which tell the number of windows too.
+// The same of what a search is handed, which tells the number of windows too.
 pub enum Fitting {
     Fit(usize),
     Refused(Refusal),

@@ -1,7 +1,8 @@
-// The lengths of a search: its pattern and tables, its trace, and room in its two buffers. For the search itself, and for a caller that
-// converts its samples first and wants to know how many windows there will be.
+// What a search is handed: its pattern, and the lengths of the tables, of the trace and of its two buffers. For the search itself, and for
+// a caller that converts its trace first and wants to know how many windows there will be.
 //
-// Follows docs/RULES.md, "Sizes" and "Refusals", numbers 1 to 6, tried in the order of their numbers. A handful of comparisons.
+// Follows docs/RULES.md, "Sizes" and "Refusals", numbers 1, 2, 21 and 3 to 6, tried in this order. One look at the pattern, and a handful
+// of comparisons.
 
 use crate::answers::Checked;
 use crate::answers::Fitting;
@@ -13,7 +14,7 @@ ghost use Prim.Native.Nat.{_≤_};
 ghost use Rattle.order.specs.Sizes.{windowsOf, traceLimit};
 ghost use Rattle.order.specs.Refusals.{accepted, roomVerdict};
 ghost use Rattle.sizes.specs.Answers.{fittingBy};
-ghost use Rattle.sizes.specs.Lengths.{LengthsPromise};
+ghost use Rattle.sizes.specs.Lengths.{FittingPromise};
 
 // N: how many windows of m samples a trace of n has.
 fn count_windows(m: usize, n: usize) -> usize
@@ -26,8 +27,8 @@ fn count_windows(m: usize, n: usize) -> usize
     0
 }
 
-// 4 to 6: the trace's length, and room in the two buffers.
-fn check_room(m: usize, n: usize, survivors: usize, positions: usize) -> Fitting
+// 4 to 6: the trace's length, and room in the two buffers of a search, for a pattern of m samples.
+pub fn for_room(m: usize, n: usize, survivors: usize, positions: usize) -> Fitting
     ensures { λ r. ⌜ r ≡ fittingBy (roomVerdict m n survivors positions accepted) (windowsOf m n) ⌝ }
 {
     if TRACE_LIMIT < n {
@@ -43,9 +44,9 @@ fn check_room(m: usize, n: usize, survivors: usize, positions: usize) -> Fitting
     Fitting::Fit(windows)
 }
 
-// The lengths of a pattern, its tables, a trace and the buffers of a search, in entries.
+// A pattern, and the lengths of its tables, of a trace and of the buffers of a search, in entries.
 pub fn for_search(
-    m: usize,
+    pattern: &[i32],
     low: usize,
     high: usize,
     witness_i: usize,
@@ -54,10 +55,10 @@ pub fn for_search(
     survivors: usize,
     positions: usize,
 ) -> Fitting
-    ensures { λ r. ⌜ LengthsPromise m low high «witness_i» «witness_j» n survivors positions r ⌝ }
+    ensures { λ r. ⌜ FittingPromise (now (pattern .entry)) low high «witness_i» «witness_j» n survivors positions r ⌝ }
 {
-    match for_tables(m, low, high, witness_i, witness_j) {
+    match for_tables(pattern, low, high, witness_i, witness_j) {
         Checked::Refused(why) => Fitting::Refused(why),
-        Checked::Fine => check_room(m, n, survivors, positions),
+        Checked::Fine => for_room(pattern.len(), n, survivors, positions),
     }
 }

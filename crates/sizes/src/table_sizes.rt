@@ -1,17 +1,19 @@
-// The lengths of a pattern and of its tables.
+// A pattern's length, its samples and the lengths of its tables. The length has a call of its own, for a caller that converts its samples
+// first and has to know that they fit.
 //
-// Follows docs/RULES.md, "Refusals", numbers 1 to 3, tried in the order of their numbers. A handful of comparisons.
+// Follows docs/RULES.md, "Refusals", numbers 1, 2, 21 and 3, tried in this order. One look at the pattern, and a handful of comparisons.
 
 use crate::answers::Checked;
+use crate::lost_stitches;
+use crate::short_tables;
 use order::PATTERN_LIMIT;
 use order::Refusal;
-use order::Table;
 ghost use mathlib.Core.Path.{_≡_};
-ghost use Rattle.order.specs.Refusals.{accepted, patternVerdict, tablesVerdict, prepareVerdict};
+ghost use Rattle.order.specs.Refusals.{accepted, patternVerdict, prepareVerdict, agreeVerdict};
 ghost use Rattle.sizes.specs.Answers.{checkedBy};
 
-// 1 and 2: the pattern.
-fn check_pattern(m: usize) -> Checked
+// 1 and 2: the pattern's length.
+pub fn for_pattern(m: usize) -> Checked
     ensures { λ r. ⌜ r ≡ checkedBy (patternVerdict m accepted) ⌝ }
 {
     if m == 0 {
@@ -23,32 +25,36 @@ fn check_pattern(m: usize) -> Checked
     Checked::Fine
 }
 
-// 3: the first table that is too short.
-fn check_tables(m: usize, low: usize, high: usize, witness_i: usize, witness_j: usize) -> Checked
-    ensures { λ r. ⌜ r ≡ checkedBy (tablesVerdict m low high «witness_i» «witness_j» accepted) ⌝ }
+// A pattern, and the lengths of its four tables, in entries. A caller that has not all four gives the pattern's length for those that it
+// hasn't.
+pub fn for_tables(
+    pattern: &[i32],
+    low: usize,
+    high: usize,
+    witness_i: usize,
+    witness_j: usize,
+) -> Checked
+    ensures { λ r. ⌜ r ≡ checkedBy (prepareVerdict (now (pattern .entry)) low high «witness_i» «witness_j») ⌝ }
 {
-    if low < m {
-        return Checked::Refused(Refusal::ShortTable(Table::Low));
-    }
-    if high < m {
-        return Checked::Refused(Refusal::ShortTable(Table::High));
-    }
-    if witness_i < m {
-        return Checked::Refused(Refusal::ShortTable(Table::WitnessI));
-    }
-    if witness_j < m {
-        return Checked::Refused(Refusal::ShortTable(Table::WitnessJ));
-    }
-    Checked::Fine
+    let m = pattern.len();
+    let length = for_pattern(m);
+    let Checked::Fine = length else {
+        return length;
+    };
+    let stitches = lost_stitches::check(pattern);
+    let Checked::Fine = stitches else {
+        return stitches;
+    };
+    short_tables::check(m, low, high, witness_i, witness_j)
 }
 
-// A pattern's length and those of its four tables, in entries. A caller that has not all four gives m for those that it hasn't.
-pub fn for_tables(m: usize, low: usize, high: usize, witness_i: usize, witness_j: usize) -> Checked
-    ensures { λ r. ⌜ r ≡ checkedBy (prepareVerdict m low high «witness_i» «witness_j») ⌝ }
+// A pattern's length alone, and those of its witness tables.
+pub fn for_agreement(m: usize, witness_i: usize, witness_j: usize) -> Checked
+    ensures { λ r. ⌜ r ≡ checkedBy (agreeVerdict m «witness_i» «witness_j») ⌝ }
 {
-    let pattern = check_pattern(m);
-    let Checked::Fine = pattern else {
-        return pattern;
+    let length = for_pattern(m);
+    let Checked::Fine = length else {
+        return length;
     };
-    check_tables(m, low, high, witness_i, witness_j)
+    short_tables::check(m, m, m, witness_i, witness_j)
 }

@@ -26,9 +26,9 @@ use Rattle.sizes.proofs.VerdictRows.{sizes-through, sizes-stay}
 
 module _ (P : List ℤ) (low high wi wj : List ℕ) where
   abbrev verdict : Verdict
-  verdict = prepareVerdict (length P) (length low) (length high) (length wi) (length wj)
+  verdict = prepareVerdict P (length low) (length high) (length wi) (length wj)
 
-  pub prepare-refused : (why : Refusal) → Refused why ≡ checkedBy (prepareVerdict (length P) (length low) (length high) (length wi) (length wj)) →
+  pub prepare-refused : (why : Refusal) → Refused why ≡ checkedBy (prepareVerdict P (length low) (length high) (length wi) (length wj)) →
       PreparePromise P low high wi wj (NotPrepared why) low high wi wj
   prepare-refused why e =
       record {
@@ -45,7 +45,7 @@ module _ (P : List ℤ) (low high wi wj : List ℕ) where
       v = refused-why verdict why e
 
   pub prepare-done : {low' high' wi' wj' : List ℕ} →
-      Fine ≡ checkedBy (prepareVerdict (length P) (length low) (length high) (length wi) (length wj)) →
+      Fine ≡ checkedBy (prepareVerdict P (length low) (length high) (length wi) (length wj)) →
       TablesWritten P low high wi wj low' high' wi' wj' →
       PreparePromise P low high wi wj Done low' high' wi' wj'
   prepare-done e t =
@@ -92,17 +92,17 @@ module _ (P : List ℤ) (low high wi wj : List ℕ) where
         answer = e;
       }
 
-  pub tables-refused : {c : Checked} (why : Refusal) → c ≡ checkedBy (prepareVerdict (length P) (length low) (length high) (length wi) (length wj)) → c ≡ Refused why →
+  pub tables-refused : {c : Checked} (why : Refusal) → c ≡ checkedBy (prepareVerdict P (length low) (length high) (length wi) (length wj)) → c ≡ Refused why →
       TablesPromise P low high wi wj c
   unfolding ownTablesVerdict
   tables-refused why e g =
-      tables-promised (g ∙ ap checkedBy (sym (sizes-stay (length P) (length low) (length high) (length wi) (length wj) why (sym g ∙ e) (ownVerdict P low high wi wj))))
+      tables-promised (g ∙ ap checkedBy (sym (sizes-stay P (length low) (length high) (length wi) (length wj) why (sym g ∙ e) (ownVerdict P low high wi wj))))
 
-  pub tables-compared : {c : Checked} → Fine ≡ checkedBy (prepareVerdict (length P) (length low) (length high) (length wi) (length wj)) →
+  pub tables-compared : {c : Checked} → Fine ≡ checkedBy (prepareVerdict P (length low) (length high) (length wi) (length wj)) →
       c ≡ checkedBy (ownVerdict P low high wi wj) → TablesPromise P low high wi wj c
   unfolding ownTablesVerdict
   tables-compared e f =
-      tables-promised (f ∙ ap checkedBy (sym (sizes-through (length P) (length low) (length high) (length wi) (length wj) e (ownVerdict P low high wi wj))))
+      tables-promised (f ∙ ap checkedBy (sym (sizes-through P (length low) (length high) (length wi) (length wj) e (ownVerdict P low high wi wj))))
 
   pub tables-only-answer : {r s : Checked} → TablesPromise P low high wi wj r → TablesPromise P low high wi wj s → r ≡ s
   tables-only-answer p q = p .answer ∙ sym (q .answer)

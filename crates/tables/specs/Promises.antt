@@ -6,7 +6,7 @@ use lib.IntN.{ℤ}
 use lib.ListN.{length}
 use Rattle.order.specs.Neighbours.{lowTable, highTable}
 use Rattle.order.specs.Witnesses.{witnessITable, witnessJTable}
-use Rattle.order.specs.Refusals.{Verdict, verdictNumber, verdictPlace, patternVerdict, tablesVerdict, prepareVerdict, ownVerdict}
+use Rattle.order.specs.Refusals.{Verdict, verdictNumber, verdictPlace, patternVerdict, stitchesVerdict, tablesVerdict, prepareVerdict, ownVerdict}
 use Rattle.order.specs.Written.{afterVerdict}
 use Rattle.sizes.specs.declared.answers.Checked.{Checked}
 use Rattle.tables.specs.declared.answers.Prepared.{Prepared}
@@ -15,7 +15,7 @@ use Rattle.tables.specs.Answers.{preparedNumber, preparedPlace, prepared
 
 -- the verdict on a pattern and its tables
 abbrev pub sizesVerdict : List ℤ → List ℕ → List ℕ → List ℕ → List ℕ → Verdict
-sizesVerdict P low high wi wj = prepareVerdict (length P) (length low) (length high) (length wi) (length wj)
+sizesVerdict P low high wi wj = prepareVerdict P (length low) (length high) (length wi) (length wj)
 
 -- preparation of the pattern P with tables that hold low, high, wi and wj: the answer r, and what the tables hold after it
 pub record PreparePromise (P : List ℤ) (low high wi wj : List ℕ) (r : Prepared) (low' high' wi' wj' : List ℕ) : Type 0 where
@@ -29,11 +29,11 @@ pub record PreparePromise (P : List ℤ) (low high wi wj : List ℕ) (r : Prepar
   pub witness-i-after : wi' ≡ afterVerdict (sizesVerdict P low high wi wj) (witnessITable P) wi
   pub witness-j-after : wj' ≡ afterVerdict (sizesVerdict P low high wi wj) (witnessJTable P) wj
 
--- 1 to 3 on the lengths, and 14 to 17 on the entries
+-- 1, 2, 21 and 3, and 14 to 17 on the entries
 unfoldable pub ownTablesVerdict : List ℤ → List ℕ → List ℕ → List ℕ → List ℕ → Verdict
 ownTablesVerdict P low high wi wj =
     patternVerdict (length P)
-    (tablesVerdict (length P) (length low) (length high) (length wi) (length wj) (ownVerdict P low high wi wj))
+    (stitchesVerdict P (tablesVerdict (length P) (length low) (length high) (length wi) (length wj) (ownVerdict P low high wi wj)))
 
 -- the check of the tables low, high, wi and wj against the pattern P: the answer r
 pub record TablesPromise (P : List ℤ) (low high wi wj : List ℕ) (r : Checked) : Type 0 where

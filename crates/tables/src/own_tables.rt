@@ -2,9 +2,9 @@
 // are looked at where they stand; only if they don't fit are the pattern's own written, to compare with. From neighbours that are the
 // pattern's own the witness tables are made and compared, entry by entry.
 //
-// Follows docs/RULES.md, "Refusals", numbers 1 to 3 and 14 to 17. Of the pattern's own tables it costs the look at the neighbours, m² / 2
-// steps by fours, 2 m tests for the witnesses and 2 m comparisons of entries, and 4 KB of stack. Foreign neighbours cost as much of that
-// look as it takes to see it, the neighbours written anew, 2 m comparisons of entries, and 4 KB; no witness is made for them.
+// Follows docs/RULES.md, "Refusals", numbers 1, 2, 21 and 3, and 14 to 17. Of the pattern's own tables it costs the look at the neighbours,
+// m² / 2 steps by fours, 2 m tests for the witnesses and 2 m comparisons of entries, and 4 KB of stack. Foreign neighbours cost as much of
+// that look as it takes to see it, the neighbours written anew, 2 m comparisons of entries, and 4 KB; no witness is made for them.
 
 use crate::claimed::neighbours_fit;
 use crate::neighbours::write_neighbours;
@@ -123,7 +123,7 @@ fn check_own(
     compare_tables(pattern, low, high, witness_i, witness_j)
 }
 
-// Whether a pattern and tables would do for a search: 1 to 3 on their lengths, and then 14 to 17.
+// Whether a pattern and tables would do for a search: 1, 2, 21 and 3, and then 14 to 17.
 pub fn check_tables(
     pattern: &[i32],
     low: &[u16],
@@ -133,15 +133,15 @@ pub fn check_tables(
 ) -> Checked
     ensures { λ r. ⌜ TablesPromise (now (pattern .entry)) (now (low .entry)) (now (high .entry)) (now («witness_i» .entry)) (now («witness_j» .entry)) r ⌝ }
 {
-    let lengths = sizes::for_tables(
-        pattern.len(),
+    let fitting = sizes::for_tables(
+        pattern,
         low.len(),
         high.len(),
         witness_i.len(),
         witness_j.len(),
     );
-    let Checked::Fine = lengths else {
-        return lengths;
+    let Checked::Fine = fitting else {
+        return fitting;
     };
     check_own(pattern, low, high, witness_i, witness_j)
 }

@@ -1,6 +1,6 @@
 // Preparation: from a pattern its four tables.
 //
-// Follows docs/RULES.md, "Neighbours", "Witness", "What is written" and "Refusals". Sizes are checked before the first
+// Follows docs/RULES.md, "Neighbours", "Witness", "What is written" and "Refusals". The pattern and the sizes are checked before the first
 // store, so a refused call leaves every table as it was. The neighbour tables take m² / 2 steps by fours and at most m² by
 // eights; the witness tables are made from them. No array is kept.
 
@@ -28,7 +28,7 @@ fn write_tables(
     write_witnesses(pattern, low, high, witness_i, witness_j);
 }
 
-// Prepares a pattern for searches: its tables are written, or the sizes are refused and nothing is.
+// Prepares a pattern for searches: its tables are written, or it is refused and nothing is.
 pub fn prepare(
     pattern: &[i32],
     low: &mut [u16],
@@ -39,7 +39,7 @@ pub fn prepare(
     ensures { λ r. ⌜ PreparePromise (now (pattern .entry)) (now (low .entry)) (now (high .entry)) (now («witness_i» .entry)) (now («witness_j» .entry)) r (now (low .exit)) (now (high .exit)) (now («witness_i» .exit)) (now («witness_j» .exit)) ⌝ }
 {
     match sizes::for_tables(
-        pattern.len(),
+        pattern,
         low.len(),
         high.len(),
         witness_i.len(),

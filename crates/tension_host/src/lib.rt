@@ -3,6 +3,7 @@
 //
 // Follows docs/RULES.md, "The C entry points". Each is one call of the crate `host_calls` or `host_recordings`, which says what it costs.
 
+ghost use Rattle.words.specs.Bytes.{samplesIn};
 ghost use Rattle.host_calls.specs.HostPromises.{HostPrepare, HostSearch};
 ghost use Rattle.host_recordings.specs.Promises.{HostRead, HostWrite};
 
@@ -15,7 +16,7 @@ pub extern "C" fn tension_prepare(
     witness_i: &mut [u8],
     witness_j: &mut [u8],
 ) -> u64
-    ensures { λ r. ⌜ HostPrepare (now (pattern .entry)) (now (low .entry)) (now (high .entry)) (now («witness_i» .entry)) (now («witness_j» .entry)) r (now (low .exit)) (now (high .exit)) (now («witness_i» .exit)) (now («witness_j» .exit)) ⌝ }
+    ensures { λ r. ⌜ HostPrepare (samplesIn (now (pattern .entry))) (now (low .entry)) (now (high .entry)) (now («witness_i» .entry)) (now («witness_j» .entry)) r (now (low .exit)) (now (high .exit)) (now («witness_i» .exit)) (now («witness_j» .exit)) ⌝ }
 {
     host_calls::prepare(pattern, low, high, witness_i, witness_j)
 }
@@ -33,7 +34,7 @@ pub extern "C" fn tension_search(
     positions: &mut [u8],
     counts: &mut [u8],
 ) -> u64
-    ensures { λ r. ⌜ HostSearch (now (pattern .entry)) (now (low .entry)) (now (high .entry)) (now («witness_i» .entry)) (now («witness_j» .entry)) (now (trace .entry)) (now (survivors .entry)) (now (positions .entry)) (now (counts .entry)) r (now (survivors .exit)) (now (positions .exit)) (now (counts .exit)) ⌝ }
+    ensures { λ r. ⌜ HostSearch (samplesIn (now (pattern .entry))) (now (low .entry)) (now (high .entry)) (now («witness_i» .entry)) (now («witness_j» .entry)) (now (trace .entry)) (now (survivors .entry)) (now (positions .entry)) (now (counts .entry)) r (now (survivors .exit)) (now (positions .exit)) (now (counts .exit)) ⌝ }
 {
     host_calls::search(
         pattern,
@@ -62,7 +63,7 @@ pub extern "C" fn tension_search_large(
     positions: &mut [u8],
     counts: &mut [u8],
 ) -> u64
-    ensures { λ r. ⌜ HostSearch (now (pattern .entry)) (now (low .entry)) (now (high .entry)) (now («witness_i» .entry)) (now («witness_j» .entry)) (now (trace .entry)) (now (survivors .entry)) (now (positions .entry)) (now (counts .entry)) r (now (survivors .exit)) (now (positions .exit)) (now (counts .exit)) ⌝ }
+    ensures { λ r. ⌜ HostSearch (samplesIn (now (pattern .entry))) (now (low .entry)) (now (high .entry)) (now («witness_i» .entry)) (now («witness_j» .entry)) (now (trace .entry)) (now (survivors .entry)) (now (positions .entry)) (now (counts .entry)) r (now (survivors .exit)) (now (positions .exit)) (now (counts .exit)) ⌝ }
 {
     host_calls::search_large(
         pattern,

@@ -2,10 +2,12 @@
 use Prim.Native.Nat.{ℕ, _+_, _≤_, _<_}
 use mathlib.Core.Path.{_≡_}
 use mathlib.Core.List.{List}
+use mathlib.Core.Bool.{true, false}
 use lib.IntN.{ℤ}
 use lib.ListN.{length}
 use Rattle.order.specs.Sizes.{patternLimit, at, traceLimit, windowsOf}
 use Rattle.order.specs.Relations.{rel}
+use Rattle.order.specs.Lost.{isLost}
 use Rattle.duels.specs.Inside.Codes.{Coded}
 
 -- a duel of window y with the one a before it, by the witness (i, j)
@@ -24,11 +26,21 @@ pub record Meetable (P : List ℤ) (wi wj olders newers : List ℕ) (T : List �
   pub later : x < y
   pub inside : y + length P ≤ length T
 
--- all windows, and a buffer with room for them
-pub record Arriving (P : List ℤ) (wi wj : List ℕ) (T : List ℤ) (windows : ℕ) (before : List ℕ) : Type 0 where
+-- a trace by these tables, and a buffer with room for all of its windows
+pub record Arriving (P : List ℤ) (wi wj : List ℕ) (T : List ℤ) (room : ℕ) : Type 0 where
   pub limit : length P ≤ patternLimit
   pub i-long : length P ≤ length wi
   pub j-long : length P ≤ length wj
   pub trace : length T ≤ traceLimit
-  pub number : windows ≡ windowsOf (length P) (length T)
-  pub room : windows ≤ length before
+  pub enough : windowsOf (length P) (length T) ≤ room
+
+-- no sample from `from` up to `end` is lost
+pub record FreeWithin (T : List ℤ) (from end : ℕ) : Type 0 where
+  pub free : (i : ℕ) → from ≤ i → i < end → isLost (at T i) ≡ false
+
+-- the first lost stitch from a sample on, or the trace's end
+pub record LostFrom (T : List ℤ) (from end : ℕ) : Type 0 where
+  pub onward : from ≤ end
+  pub within : end ≤ length T
+  pub before : FreeWithin T from end
+  pub lost-there : end < length T → isLost (at T end) ≡ true

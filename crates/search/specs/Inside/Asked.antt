@@ -8,10 +8,11 @@ use Rattle.order.specs.Sizes.{entry, patternLimit, traceLimit, windowsOf}
 use Rattle.order.specs.Witnesses.{witnessI, witnessJ}
 use Rattle.order.specs.Written.{over, countsOf, filled}
 use Rattle.order.specs.declared.relation.Relation.{Relation}
-use Rattle.order.specs.Duels.{duels, survivors}
+use Rattle.order.specs.Duels.{struck, duels, survivors}
 use Rattle.order.specs.Sweeping.{positions}
 use Rattle.order.specs.declared.steps.Counts.{Counts}
 use Rattle.tables.specs.Inside.Asked.{OwnNeighbours}
+use Rattle.duels.specs.declared.answers.Duelled.{Duelled}
 use Rattle.search.specs.Inside.Courses.{Steady}
 
 -- the witness tables are the pattern's own below its length
@@ -37,9 +38,10 @@ pub record Dueling (P : List ℤ) (wi wj : List ℕ) (T : List ℤ) (before : Li
   pub room : windowsOf (length P) (length T) ≤ length before
 
 -- what the duels leave: the survivors, with "unused" behind them
-pub record SurvivorsOf (P T : List ℤ) (before after : List ℕ) (kept fought : ℕ) : Type 0 where
-  pub number : kept ≡ length (survivors P T)
-  pub fought-is : fought ≡ duels P T
+pub record SurvivorsOf (P T : List ℤ) (before after : List ℕ) (d : Duelled) : Type 0 where
+  pub number : d .kept ≡ length (survivors P T)
+  pub fought-is : d .fought ≡ duels P T
+  pub struck-is : d .struck ≡ struck P T
   pub written : after ≡ over (filled (survivors P T) (windowsOf (length P) (length T))) before
 
 -- what a sweep may spend: 2(n + S) at the longest trace

@@ -1,14 +1,14 @@
 -- `agree` meets its contract: the sizes' verdict, and then the table's at the offset of the two starts.
 -- Assumes nothing.
 use mathlib.Core.Path.{sym, _∙_}
-use Rattle.sizes.proofs.Verdicts.{fine-accepted, prepare-room}
+use Rattle.sizes.proofs.Verdicts.{fine-accepted, agree-room}
 use Rattle.agreement.proofs.Agreed.{agree-refused, agree-compared}
 use borrow.Author.Needs.{needs}
 use Rattle.agreement.proofs.windows.agree.Statement.{statement}
 use Rattle.agreement.proofs.windows.agree.Tie as tie
 
-for-tables-requires : tie.Need-for-tables-requires
-for-tables-requires c κs = search needs
+for-agreement-requires : tie.Need-for-agreement-requires
+for-agreement-requires c κs = search needs
 
 enum-known-why : tie.Need-enum-known-why
 enum-known-why c = search needs
@@ -21,20 +21,20 @@ between-requires c κs = search needs
 
 agree-at-requires : tie.Need-agree-at-requires
 agree-at-requires c κs =
-    prepare-room _ _ _ _ _ (fine-accepted _ (sym (c .before .enum-told .given .1) ∙ c .before .before .before .for-tables .ensures)) .witness-i-room
+    agree-room _ _ _ (fine-accepted _ (sym (c .before .enum-told .given .1) ∙ c .before .before .before .for-agreement .ensures))
 
 returns : tie.Need-returns
-returns c = agree-refused _ _ _ _ _ _ (sym (c .before .why .given .1) ∙ c .before .before .before .for-tables .ensures)
+returns c = agree-refused _ _ _ _ _ _ (sym (c .before .why .given .1) ∙ c .before .before .before .for-agreement .ensures)
 
 returns-2 : tie.Need-returns-2
 returns-2 c =
-    agree-compared _ _ _ _ _ _ _ (sym (c .before .before .enum-told .given .1) ∙ c .before .before .before .before .for-tables .ensures) (c .before .between .ensures) (c .agree-at .ensures)
+    agree-compared _ _ _ _ _ _ _ (sym (c .before .before .enum-told .given .1) ∙ c .before .before .before .before .for-agreement .ensures) (c .before .between .ensures) (c .agree-at .ensures)
 
 pub agree-spec : {M : Type 1} → statement M
 agree-spec =
     tie.close
     (tie.spec
-    for-tables-requires
+    for-agreement-requires
     enum-known-why
     enum-told
     between-requires

@@ -1,73 +1,33 @@
--- `prepare_samples` meets its contract: four tables are made, and put one after the other.
+-- `prepare_samples` meets its contract: refused before anything is written, or the tables.
 -- Assumes nothing.
 use denote.Ref.{now}
-use Rattle.host_calls.proofs.PrepareLaws.{tables-put}
+use mathlib.Core.Path.{sym, _∙_}
+use Rattle.host_calls.proofs.PrepareLaws.{fine-fits, prepare-refused, prepare-put}
 use borrow.Author.Needs.{needs}
 use Rattle.host_calls.proofs.preparing.prepare_samples.Statement.{statement}
 use Rattle.host_calls.proofs.preparing.prepare_samples.Tie as tie
 
-slice-aggregate-prepare : tie.Need-slice-aggregate-prepare
-slice-aggregate-prepare c = search needs
+for-tables-requires : tie.Need-for-tables-requires
+for-tables-requires c κs = search needs
 
-slice-aggregate-prepare-2 : tie.Need-slice-aggregate-prepare-2
-slice-aggregate-prepare-2 c = search needs
+enum-known-why : tie.Need-enum-known-why
+enum-known-why c = search needs
 
-slice-aggregate-prepare-3 : tie.Need-slice-aggregate-prepare-3
-slice-aggregate-prepare-3 c = search needs
+result-of-requires : tie.Need-result-of-requires
+result-of-requires c κs = search needs
 
-slice-aggregate-prepare-4 : tie.Need-slice-aggregate-prepare-4
-slice-aggregate-prepare-4 c = search needs
+enum-told : tie.Need-enum-told
+enum-told c = search needs
 
-prepare-requires : tie.Need-prepare-requires
-prepare-requires c κs = search needs
+put-tables-requires : tie.Need-put-tables-requires
+put-tables-requires c κs =
+    let a = c .before .before .before .before .before .before .before .before .before .before .before .args in
+    fine-fits (now (a .pattern)) (now (a .low)) (now (a .high)) (now (a .witness-i)) (now (a .witness-j)) (sym (c .before .before .before .before .enum-told .given .1) ∙ c .before .before .before .before .before .before .for-tables .ensures)
 
-sub-put-entries : tie.Need-sub-put-entries
-sub-put-entries c = search needs
-
-part-put-entries-start : tie.Need-part-put-entries-start
-part-put-entries-start c = search needs
-
-part-put-entries-end : tie.Need-part-put-entries-end
-part-put-entries-end c = search needs
-
-put-entries-requires : tie.Need-put-entries-requires
-put-entries-requires c κs = search needs
-
-sub-put-entries-2 : tie.Need-sub-put-entries-2
-sub-put-entries-2 c = search needs
-
-part-put-entries-start-2 : tie.Need-part-put-entries-start-2
-part-put-entries-start-2 c = search needs
-
-part-put-entries-end-2 : tie.Need-part-put-entries-end-2
-part-put-entries-end-2 c = search needs
-
-put-entries-requires-2 : tie.Need-put-entries-requires-2
-put-entries-requires-2 c κs = search needs
-
-sub-put-entries-3 : tie.Need-sub-put-entries-3
-sub-put-entries-3 c = search needs
-
-part-put-entries-start-3 : tie.Need-part-put-entries-start-3
-part-put-entries-start-3 c = search needs
-
-part-put-entries-end-3 : tie.Need-part-put-entries-end-3
-part-put-entries-end-3 c = search needs
-
-put-entries-requires-3 : tie.Need-put-entries-requires-3
-put-entries-requires-3 c κs = search needs
-
-sub-put-entries-4 : tie.Need-sub-put-entries-4
-sub-put-entries-4 c = search needs
-
-part-put-entries-start-4 : tie.Need-part-put-entries-start-4
-part-put-entries-start-4 c = search needs
-
-part-put-entries-end-4 : tie.Need-part-put-entries-end-4
-part-put-entries-end-4 c = search needs
-
-put-entries-requires-4 : tie.Need-put-entries-requires-4
-put-entries-requires-4 c κs = search needs
+returns : tie.Need-returns
+returns c =
+    let a = c .before .before .before .before .before .before .before .before .before .args in
+    prepare-refused (now (a .pattern)) (now (a .low)) (now (a .high)) (now (a .witness-i)) (now (a .witness-j)) _ (sym (c .before .before .why .given .1) ∙ c .before .before .before .before .for-tables .ensures) (c .result-of .ensures)
 
 same-length : tie.Need-same-length
 same-length c = search needs
@@ -81,40 +41,23 @@ same-length-3 c = search needs
 same-length-4 : tie.Need-same-length-4
 same-length-4 c = search needs
 
-returns : tie.Need-returns
-returns c =
-    let s = c .before .before .before .before .before .before .before .before .before .before .before .before .before .before .before .before .before .before .before .before .before .before .before .before .before .before .before .before .before .before .before .before .before .before .before .before .before in
-    let a = s .args in
-    tables-put (now (a .pattern)) _ _ _ _ (now (a .low)) (now (a .high)) (now (a .witness-i)) (now (a .witness-j)) (c .before .before .before .before .before .before .before .before .before .before .before .before .before .before .before .before .before .before .before .before .before .before .before .before .before .before .before .before .prepare .ensures)
-    (s .pre) (let l = s .pre .limit in record { some = s .pre .some; limit = l; low-room = l; high-room = l; witness-i-room = l; witness-j-room = l }) (c .before .before .before .before .before .before .before .before .before .before .before .before .before .before .before .before .before .before .before .before .put-entries .ensures) (c .before .before .before .before .before .before .before .before .before .before .before .before .before .before .put-entries2 .ensures) (c .before .before .before .before .before .before .before .before .put-entries3 .ensures) (c .before .before .put-entries4 .ensures)
+returns-2 : tie.Need-returns-2
+returns-2 c =
+    let a = c .before .before .before .before .before .before .before .before .before .before .before .before .before .before .before .before .before .before .before .before .args in
+    prepare-put (now (a .pattern)) (now (a .low)) (now (a .high)) (now (a .witness-i)) (now (a .witness-j)) (sym (c .before .before .before .before .before .before .before .before .before .before .before .before .before .enum-told .given .1) ∙ c .before .before .before .before .before .before .before .before .before .before .before .before .before .before .before .for-tables .ensures) (c .before .before .before .before .before .before .before .before .put-tables .ensures)
 
 pub prepare-samples-spec : {M : Type 1} → statement M
 prepare-samples-spec =
     tie.close
     (tie.spec
-    slice-aggregate-prepare
-    slice-aggregate-prepare-2
-    slice-aggregate-prepare-3
-    slice-aggregate-prepare-4
-    prepare-requires
-    sub-put-entries
-    part-put-entries-start
-    part-put-entries-end
-    put-entries-requires
-    sub-put-entries-2
-    part-put-entries-start-2
-    part-put-entries-end-2
-    put-entries-requires-2
-    sub-put-entries-3
-    part-put-entries-start-3
-    part-put-entries-end-3
-    put-entries-requires-3
-    sub-put-entries-4
-    part-put-entries-start-4
-    part-put-entries-end-4
-    put-entries-requires-4
+    for-tables-requires
+    enum-known-why
+    result-of-requires
+    enum-told
+    put-tables-requires
+    returns
     same-length
     same-length-2
     same-length-3
     same-length-4
-    returns)
+    returns-2)

@@ -1,14 +1,53 @@
--- `search` meets its contract: a long trace is searched as `search_large` does, and a short one is refused before anything is written,
--- or searched in arrays of its size.
+-- `search` meets its contract: a length that is refused, or the pattern by its samples.
 -- Assumes nothing.
 use denote.Ref.{now}
-use Rattle.host_calls.proofs.SearchingLaws.{search-fits, search-refused}
+use mathlib.Core.Path.{sym, _∙_}
+use native.Mathlib.Omega.{arith}
+use native.Mathlib.Nat.{sub-zero}
+use Rattle.order.specs.Refusals.{accepted}
+use Rattle.sizes.proofs.Verdicts.{fine-accepted, pattern-passed}
+use Rattle.host_calls.proofs.SearchingLaws.{search-unfit, samples-searched}
 use borrow.Author.Needs.{needs}
 use Rattle.host_calls.proofs.tiers.search.Statement.{statement}
 use Rattle.host_calls.proofs.tiers.search.Tie as tie
 
-search-large-requires : tie.Need-search-large-requires
-search-large-requires c κs = search needs
+for-pattern-requires : tie.Need-for-pattern-requires
+for-pattern-requires c κs = search needs
+
+enum-known-why : tie.Need-enum-known-why
+enum-known-why c = search needs
+
+result-of-requires : tie.Need-result-of-requires
+result-of-requires c κs = search needs
+
+enum-told : tie.Need-enum-told
+enum-told c = search needs
+
+slice-aggregate-all-samples : tie.Need-slice-aggregate-all-samples
+slice-aggregate-all-samples c = search needs
+
+all-samples-requires : tie.Need-all-samples-requires
+all-samples-requires c κs =
+    pattern-passed _ accepted (fine-accepted _ (sym (c .before .enum-told .given .1) ∙ c .before .before .before .for-pattern .ensures)) .1
+
+sub-search-sized : tie.Need-sub-search-sized
+sub-search-sized c = search needs
+
+part-search-sized-start : tie.Need-part-search-sized-start
+part-search-sized-start c = search needs
+
+part-search-sized-end : tie.Need-part-search-sized-end
+part-search-sized-end c =
+    let l = pattern-passed _ accepted (fine-accepted _ (sym (c .before .before .before .before .enum-told .given .1) ∙ c .before .before .before .before .before .before .for-pattern .ensures)) .1 in
+    omega arith
+
+search-sized-requires : tie.Need-search-sized-requires
+search-sized-requires c κs = search needs
+
+returns : tie.Need-returns
+returns c =
+    let a = c .before .before .before .before .before .before .before .before .before .before .before .before .before .before .args in
+    search-unfit (now (a .pattern)) (now (a .low)) (now (a .high)) (now (a .witness-i)) (now (a .witness-j)) (now (a .trace)) (now (a .survivors)) (now (a .positions)) (now (a .counts)) (c .before .before .before .before .for-pattern .ensures) (c .before .before .why .given .1) (c .result-of .ensures)
 
 same-length : tie.Need-same-length
 same-length c = search needs
@@ -19,81 +58,26 @@ same-length-2 c = search needs
 same-length-3 : tie.Need-same-length-3
 same-length-3 c = search needs
 
-returns : tie.Need-returns
-returns c = c .before .before .before .before .before .before .search-large .ensures
-
-for-search-requires : tie.Need-for-search-requires
-for-search-requires c κs = search needs
-
-enum-known-why : tie.Need-enum-known-why
-enum-known-why c = search needs
-
-result-of-requires : tie.Need-result-of-requires
-result-of-requires c κs = search needs
-
-enum-known-windows : tie.Need-enum-known-windows
-enum-known-windows c = search needs
-
-search-short-requires : tie.Need-search-short-requires
-search-short-requires c κs =
-    let a = c .before .before .before .before .before .before .before .before .before .before .before .before .before .before .before .before .before .before .args in
-    (search needs, search-fits (now (a .pattern)) (now (a .low)) (now (a .high)) (now (a .witness-i)) (now (a .witness-j)) (now (a .trace)) (now (a .survivors)) (now (a .positions)) (now (a .counts)) _ (c .before .before .before .before .before .before .before .for-search .ensures) (c .before .before .before .before .before .windows .given .1))
-
-same-length-4 : tie.Need-same-length-4
-same-length-4 c = search needs
-
-same-length-5 : tie.Need-same-length-5
-same-length-5 c = search needs
-
-same-length-6 : tie.Need-same-length-6
-same-length-6 c = search needs
-
 returns-2 : tie.Need-returns-2
-returns-2 c = c .before .before .before .before .before .before .search-short .ensures
-
-search-brief-requires : tie.Need-search-brief-requires
-search-brief-requires c κs =
-    let a = c .before .before .before .before .before .before .before .before .before .before .before .before .before .before .before .before .before .before .args in
-    (search needs, search-fits (now (a .pattern)) (now (a .low)) (now (a .high)) (now (a .witness-i)) (now (a .witness-j)) (now (a .trace)) (now (a .survivors)) (now (a .positions)) (now (a .counts)) _ (c .before .before .before .before .before .before .before .for-search .ensures) (c .before .before .before .before .before .windows .given .1))
-
-returns-3 : tie.Need-returns-3
-returns-3 c =
-    let a = c .before .before .before .before .before .before .before .before .before .before .before .before .before .before .before .args in
-    search-refused (now (a .pattern)) (now (a .low)) (now (a .high)) (now (a .witness-i)) (now (a .witness-j)) (now (a .trace)) (now (a .survivors)) (now (a .positions)) (now (a .counts)) _ (c .before .before .before .before .for-search .ensures) (c .before .before .why .given .1) (c .result-of .ensures)
-
-same-length-7 : tie.Need-same-length-7
-same-length-7 c = search needs
-
-same-length-8 : tie.Need-same-length-8
-same-length-8 c = search needs
-
-same-length-9 : tie.Need-same-length-9
-same-length-9 c = search needs
-
-returns-4 : tie.Need-returns-4
-returns-4 c = c .before .before .before .before .before .before .search-brief .ensures
+returns-2 c =
+    samples-searched (now (c .before .before .before .before .before .before .before .before .before .before .before .before .before .before .before .before .before .before .before .before .before .before .before .before .before .before .before .args .pattern)) (c .before .before .before .before .before .before .search-sized .ensures) (rw sub-zero (c .before .before .before .before .before .before .before .before .before .before .before .before .before .all-samples .ensures))
 
 pub search-spec : {M : Type 1} → statement M
 search-spec =
     tie.close
     (tie.spec
-    search-large-requires
+    for-pattern-requires
+    enum-known-why
+    result-of-requires
+    enum-told
+    slice-aggregate-all-samples
+    all-samples-requires
+    sub-search-sized
+    part-search-sized-start
+    part-search-sized-end
+    search-sized-requires
+    returns
     same-length
     same-length-2
     same-length-3
-    returns
-    for-search-requires
-    enum-known-why
-    result-of-requires
-    enum-known-windows
-    search-short-requires
-    same-length-4
-    same-length-5
-    same-length-6
-    returns-2
-    search-brief-requires
-    returns-3
-    same-length-7
-    same-length-8
-    same-length-9
-    returns-4)
+    returns-2)

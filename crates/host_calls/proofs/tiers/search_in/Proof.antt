@@ -10,17 +10,17 @@ use Rattle.host_calls.proofs.tiers.search_in.Tie as tie
 all-samples-requires : tie.Need-all-samples-requires
 all-samples-requires c κs = search needs
 
-sub-search-samples : tie.Need-sub-search-samples
-sub-search-samples c = search needs
+sub-search-by : tie.Need-sub-search-by
+sub-search-by c = search needs
 
-part-search-samples-start : tie.Need-part-search-samples-start
-part-search-samples-start c = search needs
+part-search-by-start : tie.Need-part-search-by-start
+part-search-by-start c = search needs
 
-part-search-samples-end : tie.Need-part-search-samples-end
-part-search-samples-end c = search needs
+part-search-by-end : tie.Need-part-search-by-end
+part-search-by-end c = search needs
 
-search-samples-requires : tie.Need-search-samples-requires
-search-samples-requires c κs = search needs
+search-by-requires : tie.Need-search-by-requires
+search-by-requires c κs = search needs
 
 sub-put-answer : tie.Need-sub-put-answer
 sub-put-answer c = search needs
@@ -63,20 +63,20 @@ same-length-6 c = search needs
 
 returns : tie.Need-returns
 returns c =
-    let s = c .before .before .before .before .before .before .before .before .before .before .before .before .before .before .before .before .before .before .before .before .before .before .before .before .before .before .before .before .before .before .before .before .before .before .before .before .before in
+    let s = c .before .before .before .before .before .before .before .before .before .before .before .before .before .before .before .before .before .before .before .before .before .before .before .before .before .before .before .before .before .before .before .before .before .before .before .before in
     let a = s .args in
     search-put (now (a .pattern)) (now (a .low)) (now (a .high)) (now (a .witness-i)) (now (a .witness-j)) (now (a .trace)) (now (a .survivors)) (now (a .positions)) (now (a .counts)) (s .pre .0) (s .pre .1)
-    (c .before .before .before .before .before .before .before .before .before .before .before .before .before .before .before .before .before .before .search-samples .ensures) (rw sub-zero (c .before .before .before .before .before .before .before .before .before .before .before .before .before .before .before .before .before .before .before .before .before .before .before .before .all-samples .ensures)) (c .before .before .before .before .before .before .put-answer .ensures)
+    (c .before .before .before .before .before .before .before .before .before .before .before .before .before .before .before .before .before .before .search-by .ensures) (rw sub-zero (c .before .before .before .before .before .before .before .before .before .before .before .before .before .before .before .before .before .before .before .before .before .before .before .before .all-samples .ensures)) (c .before .before .before .before .before .before .put-answer .ensures)
 
 pub search-in-spec : {M : Type 1} → statement M
 search-in-spec =
     tie.close
     (tie.spec
     all-samples-requires
-    sub-search-samples
-    part-search-samples-start
-    part-search-samples-end
-    search-samples-requires
+    sub-search-by
+    part-search-by-start
+    part-search-by-end
+    search-by-requires
     sub-put-answer
     part-put-answer-start
     part-put-answer-end

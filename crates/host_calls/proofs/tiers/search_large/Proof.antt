@@ -1,13 +1,18 @@
--- `search_large` meets its contract: refused before anything is written, or searched in the large arrays.
+-- `search_large` meets its contract: a length that is refused, or the pattern by its samples.
 -- Assumes nothing.
 use denote.Ref.{now}
-use Rattle.host_calls.proofs.SearchingLaws.{search-fits, search-refused}
+use mathlib.Core.Path.{sym, _∙_}
+use native.Mathlib.Omega.{arith}
+use native.Mathlib.Nat.{sub-zero}
+use Rattle.order.specs.Refusals.{accepted}
+use Rattle.sizes.proofs.Verdicts.{fine-accepted, pattern-passed}
+use Rattle.host_calls.proofs.SearchingLaws.{search-unfit, samples-searched}
 use borrow.Author.Needs.{needs}
 use Rattle.host_calls.proofs.tiers.search_large.Statement.{statement}
 use Rattle.host_calls.proofs.tiers.search_large.Tie as tie
 
-for-search-requires : tie.Need-for-search-requires
-for-search-requires c κs = search needs
+for-pattern-requires : tie.Need-for-pattern-requires
+for-pattern-requires c κs = search needs
 
 enum-known-why : tie.Need-enum-known-why
 enum-known-why c = search needs
@@ -15,29 +20,34 @@ enum-known-why c = search needs
 result-of-requires : tie.Need-result-of-requires
 result-of-requires c κs = search needs
 
-enum-known-windows : tie.Need-enum-known-windows
-enum-known-windows c = search needs
+enum-told : tie.Need-enum-told
+enum-told c = search needs
 
-slice-aggregate-search-in : tie.Need-slice-aggregate-search-in
-slice-aggregate-search-in c = search needs
+slice-aggregate-all-samples : tie.Need-slice-aggregate-all-samples
+slice-aggregate-all-samples c = search needs
 
-slice-aggregate-search-in-2 : tie.Need-slice-aggregate-search-in-2
-slice-aggregate-search-in-2 c = search needs
+all-samples-requires : tie.Need-all-samples-requires
+all-samples-requires c κs =
+    pattern-passed _ accepted (fine-accepted _ (sym (c .before .enum-told .given .1) ∙ c .before .before .before .for-pattern .ensures)) .1
 
-slice-aggregate-search-in-3 : tie.Need-slice-aggregate-search-in-3
-slice-aggregate-search-in-3 c = search needs
+sub-search-long : tie.Need-sub-search-long
+sub-search-long c = search needs
 
-search-in-requires : tie.Need-search-in-requires
-search-in-requires c κs =
-    let a = c .before .before .before .before .before .before .before .before .before .before .before .before .before .before .before .before .before .before .before .args in
-    let f = search-fits (now (a .pattern)) (now (a .low)) (now (a .high)) (now (a .witness-i)) (now (a .witness-j)) (now (a .trace)) (now (a .survivors)) (now (a .positions)) (now (a .counts)) _ (c .before .before .before .before .before .before .before .before .before .for-search .ensures) (c .before .before .before .before .before .before .before .windows .given .1) in
-    let l = f .trace-limit in
-    (f, record { samples-long = search needs; keeps-long = search needs; lists-long = search needs })
+part-search-long-start : tie.Need-part-search-long-start
+part-search-long-start c = search needs
+
+part-search-long-end : tie.Need-part-search-long-end
+part-search-long-end c =
+    let l = pattern-passed _ accepted (fine-accepted _ (sym (c .before .before .before .before .enum-told .given .1) ∙ c .before .before .before .before .before .before .for-pattern .ensures)) .1 in
+    omega arith
+
+search-long-requires : tie.Need-search-long-requires
+search-long-requires c κs = search needs
 
 returns : tie.Need-returns
 returns c =
     let a = c .before .before .before .before .before .before .before .before .before .before .before .before .before .before .args in
-    search-refused (now (a .pattern)) (now (a .low)) (now (a .high)) (now (a .witness-i)) (now (a .witness-j)) (now (a .trace)) (now (a .survivors)) (now (a .positions)) (now (a .counts)) _ (c .before .before .before .before .for-search .ensures) (c .before .before .why .given .1) (c .result-of .ensures)
+    search-unfit (now (a .pattern)) (now (a .low)) (now (a .high)) (now (a .witness-i)) (now (a .witness-j)) (now (a .trace)) (now (a .survivors)) (now (a .positions)) (now (a .counts)) (c .before .before .before .before .for-pattern .ensures) (c .before .before .why .given .1) (c .result-of .ensures)
 
 same-length : tie.Need-same-length
 same-length c = search needs
@@ -49,20 +59,23 @@ same-length-3 : tie.Need-same-length-3
 same-length-3 c = search needs
 
 returns-2 : tie.Need-returns-2
-returns-2 c = c .before .before .before .before .before .before .before .before .before .search-in .ensures
+returns-2 c =
+    samples-searched (now (c .before .before .before .before .before .before .before .before .before .before .before .before .before .before .before .before .before .before .before .before .before .before .before .before .before .before .before .args .pattern)) (c .before .before .before .before .before .before .search-long .ensures) (rw sub-zero (c .before .before .before .before .before .before .before .before .before .before .before .before .before .all-samples .ensures))
 
 pub search-large-spec : {M : Type 1} → statement M
 search-large-spec =
     tie.close
     (tie.spec
-    for-search-requires
+    for-pattern-requires
     enum-known-why
     result-of-requires
-    enum-known-windows
-    slice-aggregate-search-in
-    slice-aggregate-search-in-2
-    slice-aggregate-search-in-3
-    search-in-requires
+    enum-told
+    slice-aggregate-all-samples
+    all-samples-requires
+    sub-search-long
+    part-search-long-start
+    part-search-long-end
+    search-long-requires
     returns
     same-length
     same-length-2

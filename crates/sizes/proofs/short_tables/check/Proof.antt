@@ -1,9 +1,9 @@
--- `check_tables` meets its contract: each test that the code makes is the verdict's own, in the same order.
+-- `check` meets its contract: each test that the code makes is the verdict's own, in the same order.
 -- Assumes nothing.
 use borrow.Author.Tests.{lt-ltb, le-ltb}
 use Rattle.order.specs.Refusals.{tablesVerdict, witnessesVerdict}
-use Rattle.sizes.proofs.table_sizes.check_tables.Statement.{statement}
-use Rattle.sizes.proofs.table_sizes.check_tables.Tie as tie
+use Rattle.sizes.proofs.short_tables.check.Statement.{statement}
+use Rattle.sizes.proofs.short_tables.check.Tie as tie
 
 returns : tie.Need-returns
 unfolding tablesVerdict witnessesVerdict
@@ -27,5 +27,5 @@ unfolding tablesVerdict witnessesVerdict
 returns-5 c =
     simp (le-ltb _ _ (c .before .before .before .if1 .left), le-ltb _ _ (c .before .before .if2 .left), le-ltb _ _ (c .before .if3 .left), le-ltb _ _ (c .if4 .left))
 
-pub check-tables-spec : {M : Type 1} → statement M
-check-tables-spec = tie.close (tie.spec returns returns-2 returns-3 returns-4 returns-5)
+pub check-spec : {M : Type 1} → statement M
+check-spec = tie.close (tie.spec returns returns-2 returns-3 returns-4 returns-5)

@@ -1,9 +1,9 @@
--- `check_room` meets its contract, condition by condition.
+-- `for_room` meets its contract, condition by condition.
 -- Assumes nothing.
 use Rattle.sizes.proofs.VerdictRows.{room-long, room-survivors, room-positions, room-fine}
 use borrow.Author.Needs.{needs}
-use Rattle.sizes.proofs.search_sizes.check_room.Statement.{statement}
-use Rattle.sizes.proofs.search_sizes.check_room.Tie as tie
+use Rattle.sizes.proofs.search_sizes.for_room.Statement.{statement}
+use Rattle.sizes.proofs.search_sizes.for_room.Tie as tie
 
 returns : tie.Need-returns
 returns c = let a = c .before .args in room-long (a .m) (a .n) (a .survivors) (a .positions) (c .if1 .taken)
@@ -26,5 +26,5 @@ returns-4 c =
     let a = c .before .before .before .before .args in
     room-fine (a .m) (a .n) (a .survivors) (a .positions) (c .before .before .before .if1 .left) (c .before .before .count-windows .ensures) (c .before .if2 .left) (c .if3 .left)
 
-pub check-room-spec : {M : Type 1} → statement M
-check-room-spec = tie.close (tie.spec returns count-windows-requires returns-2 returns-3 returns-4)
+pub for-room-spec : {M : Type 1} → statement M
+for-room-spec = tie.close (tie.spec returns count-windows-requires returns-2 returns-3 returns-4)

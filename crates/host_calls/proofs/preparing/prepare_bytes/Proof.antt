@@ -1,11 +1,11 @@
--- `prepare_fitting` meets its contract: the pattern's samples are converted, and prepared.
+-- `prepare_bytes` meets its contract: the pattern's samples are converted, and prepared.
 -- Assumes nothing.
 use denote.Ref.{now}
 use native.Mathlib.Nat.{sub-zero}
 use Rattle.host_calls.proofs.PrepareLaws.{samples-prepared}
 use borrow.Author.Needs.{needs}
-use Rattle.host_calls.proofs.preparing.prepare_fitting.Statement.{statement}
-use Rattle.host_calls.proofs.preparing.prepare_fitting.Tie as tie
+use Rattle.host_calls.proofs.preparing.prepare_bytes.Statement.{statement}
+use Rattle.host_calls.proofs.preparing.prepare_bytes.Tie as tie
 
 slice-aggregate-all-samples : tie.Need-slice-aggregate-all-samples
 slice-aggregate-all-samples c = search needs
@@ -41,8 +41,8 @@ returns : tie.Need-returns
 returns c =
     samples-prepared (now (c .before .before .before .before .before .before .before .before .before .before .before .before .before .before .before .before .before .before .before .before .before .before .before .args .pattern)) (c .before .before .before .before .before .before .before .before .prepare-samples .ensures) (rw sub-zero (c .before .before .before .before .before .before .before .before .before .before .before .before .before .before .before .before .all-samples .ensures))
 
-pub prepare-fitting-spec : {M : Type 1} → statement M
-prepare-fitting-spec =
+pub prepare-bytes-spec : {M : Type 1} → statement M
+prepare-bytes-spec =
     tie.close
     (tie.spec
     slice-aggregate-all-samples
