@@ -5,10 +5,8 @@ use mathlib.Core.Path.{_≡_, refl, sym, _∙_, ap}
 use mathlib.Core.List.{List}
 use mathlib.Core.Bool.{Bool, true, false, not, _||_}
 use native.Mathlib.Omega.{arith}
-use lib.Dec.{leb}
 use lib.IntN.{ℤ}
 use lib.ListN.{length, take, drop, length-take, length-drop}
-use borrow.Author.Tests.{leb-true, leb-false}
 use Rattle.order.specs.declared.steps.Meeting.{Meeting}
 use Rattle.order.specs.Sizes.{Spot, none, place, at, windowsOf}
 use Rattle.order.specs.Lost.{isLost, firstLost, holdsLost}
@@ -18,7 +16,8 @@ use Rattle.order.proofs.Lists.{windowsOf-as}
 use Rattle.order.proofs.Isomorphisms.{at-part}
 use Rattle.order.proofs.LostStitches.{Found, first-found, holds-none, window-free, window-holds}
 use Rattle.stitches.specs.Ends.{orEnd}
-use Rattle.duels.specs.Inside.Asked.{FreeWithin, LostFrom}
+use Rattle.stitches.specs.Inside.{FreeWithin}
+use Rattle.duels.specs.Inside.Asked.{LostFrom}
 use Rattle.duels.specs.Inside.Stacks.{Standing, enters, RunOf}
 use Rattle.duels.proofs.StackLaws.{skipped-to}
 
@@ -125,30 +124,6 @@ pub or-none : (a b : Bool) → (a || b) ≡ false → (a ≡ false) × (b ≡ fa
 or-none true b e = (e, clash refl e)
 or-none false b e = (refl, e)
 
-pub free-first : (T : List ℤ) (from : ℕ) → FreeWithin T from (from + 0)
-free-first T from = record { free = λ i h k. absurd (omega arith) }
-
-pub free-more : {T : List ℤ} {from : ℕ} (n : ℕ) → FreeWithin T from (from + n) → isLost (at T (from + n)) ≡ false → FreeWithin T from (from + (n + 1))
-free-more {T} {from} n f e = record { free = λ i h k. go i h k (leb (from + n) i) refl }
-  where
-    go : (i : ℕ) → from ≤ i → i < from + (n + 1) → (t : Bool) → leb (from + n) i ≡ t → isLost (at T i) ≡ false
-    go i h k true g = let l : from + n ≤ i = leb-true (from + n) i g in let same : i ≡ from + n = omega arith in ap (λ j. isLost (at T j)) same ∙ e
-    go i h k false g = let l : i < from + n = leb-false (from + n) i g in f .free i h (omega arith)
-
-module _ (P T : List ℤ) where
-  -- the samples before the first window's last one, and those from it on
-  pub both-free : {reach : ℕ} → reach ≤ length T → false ≡ holdsLost (take (reach - 0) (drop 0 T)) → FreeWithin T reach (length T) → FreeWithin T 0 (length T)
-  both-free {reach} r e f = record { free = λ i h k. go i k (leb reach i) refl }
-    where
-      go : (i : ℕ) → i < length T → (t : Bool) → leb reach i ≡ t → isLost (at T i) ≡ false
-      go i k true g = f .free i (leb-true reach i g) k
-      go i k false g =
-          let l : i < reach = leb-false reach i g in
-          let a = length-take (reach - 0) (drop 0 T) in
-          let b = length-drop 0 T in
-          let same : i ≡ 0 + i = omega arith in
-          ap isLost (ap (at T) same ∙ sym (at-part (reach - 0) 0 T i (omega arith))) ∙ holds-none (take (reach - 0) (drop 0 T)) (sym e) i (omega arith)
-
-  pub none-struck : FreeWithin T 0 (length T) → (x : ℕ) → isStruck P T x ≡ false
-  unfolding isStruck
-  none-struck f x = window-free T x (length P) (λ i p q r. f .free i (omega arith) r)
+pub none-struck : (P T : List ℤ) → FreeWithin T 0 (length T) → (x : ℕ) → isStruck P T x ≡ false
+unfolding isStruck
+none-struck P T f x = window-free T x (length P) (λ i p q r. f .free i (omega arith) r)

@@ -20,9 +20,10 @@ ghost use lib.ListN.{length};
 ghost use Prim.Native.Nat.{_+_, _-_, _≤_};
 ghost use Rattle.order.specs.Sizes.{traceLimit, windowsOf};
 ghost use Rattle.order.specs.Duels.{duel as duelOf};
+ghost use Rattle.stitches.specs.Inside.{FreeWithin};
 ghost use Rattle.duels.specs.DuelPromise.{meetsBy};
 ghost use Rattle.duels.specs.Inside.Codes.{ownCode, Coded};
-ghost use Rattle.duels.specs.Inside.Asked.{Duelable, Meetable, Arriving, FreeWithin};
+ghost use Rattle.duels.specs.Inside.Asked.{Duelable, Meetable, Arriving};
 ghost use Rattle.duels.specs.Inside.Stacks.{ArrivedOf, RunAhead, SameBehind, pushedRun};
 
 // What the windows so far have left: how many have arrived, how many of them are kept, and how many fell together with another.

@@ -6,10 +6,11 @@
 
 use order::LOST;
 ghost use mathlib.Core.Path.{_≡_};
+ghost use Prim.Native.Nat.{_≤_};
 ghost use lib.ListN.{length};
 ghost use Rattle.order.specs.Lost.{firstLost, holdsLost};
 ghost use Rattle.stitches.specs.Ends.{orEnd};
-ghost use Rattle.stitches.specs.Inside.{FreeBelow};
+ghost use Rattle.stitches.specs.Inside.{FreeWithin};
 
 // Whether one of the samples is lost. It looks at all of them even after one that is: a loop that could end early would take them one by
 // one.
@@ -28,7 +29,7 @@ const BLOCK: usize = 64;
 
 // How many samples lie before the first block that holds a lost one, or before the last one, which is not whole.
 fn free_blocks(samples: &[i32]) -> usize
-    ensures { λ r. ⌜ FreeBelow (now (samples .entry)) r ⌝ }
+    ensures { λ r. ⌜ FreeWithin (now (samples .entry)) 0 r × (r ≤ length (now (samples .entry))) ⌝ }
 {
     let mut i: usize = 0;
     while BLOCK <= samples.len() - i {

@@ -2,12 +2,13 @@
 use Prim.Native.Nat.{ℕ, _+_, _≤_, _<_}
 use mathlib.Core.Path.{_≡_}
 use mathlib.Core.List.{List}
-use mathlib.Core.Bool.{true, false}
+use mathlib.Core.Bool.{true}
 use lib.IntN.{ℤ}
 use lib.ListN.{length}
 use Rattle.order.specs.Sizes.{patternLimit, at, traceLimit, windowsOf}
 use Rattle.order.specs.Relations.{rel}
 use Rattle.order.specs.Lost.{isLost}
+use Rattle.stitches.specs.Inside.{FreeWithin}
 use Rattle.duels.specs.Inside.Codes.{Coded}
 
 -- a duel of window y with the one a before it, by the witness (i, j)
@@ -33,10 +34,6 @@ pub record Arriving (P : List ℤ) (wi wj : List ℕ) (T : List ℤ) (room : ℕ
   pub j-long : length P ≤ length wj
   pub trace : length T ≤ traceLimit
   pub enough : windowsOf (length P) (length T) ≤ room
-
--- no sample from `from` up to `end` is lost
-pub record FreeWithin (T : List ℤ) (from end : ℕ) : Type 0 where
-  pub free : (i : ℕ) → from ≤ i → i < end → isLost (at T i) ≡ false
 
 -- the first lost stitch from a sample on, or the trace's end
 pub record LostFrom (T : List ℤ) (from end : ℕ) : Type 0 where

@@ -11,12 +11,12 @@ use Rattle.order.specs.Sizes.{lowest, those, windowsOf}
 use Rattle.order.specs.Duels.{stacked, arriveAll, isStruck, struck}
 use Rattle.order.specs.Refusals.{accepted}
 use Rattle.order.specs.Written.{over, filled}
+use Rattle.stitches.specs.Inside.{FreeWithin}
 use Rattle.duels.specs.declared.answers.Duelled.{Duelled}
 use Rattle.duels.specs.declared.answers.Duels.{Duels}
 use Rattle.duels.specs.declared.answers.Duels.the-variants.{Done}
 use Rattle.duels.specs.DuelPromise.{untoldAt, meetsBy, stackBy, duelsBy, afterDuels, duelledOf}
 use Rattle.duels.specs.Inside.Codes.{Coded}
-use Rattle.duels.specs.Inside.Asked.{FreeWithin}
 
 -- the first k entries of a buffer, the last one on top
 unfoldable pub top : List ℕ → ℕ → List ℕ

@@ -1,24 +1,24 @@
 -- `first_lost` meets its contract. The loop's invariant: none of the samples passed is lost. The measure is the samples left.
 -- Assumes nothing.
-use Prim.Native.Nat.{_-_}
+use Prim.Native.Nat.{_-_, _≤_}
 use mathlib.Core.Path.{sym, _∙_}
 use native.Mathlib.Omega.{arith}
 use lib.ListN.{length}
 use borrow.Author.Tests.{eq-eqb, ne-eqb}
-use Rattle.stitches.specs.Inside.{FreeBelow}
-use Rattle.stitches.proofs.Looks.{free-first, free-more, found-there, found-none, lost-told}
+use Rattle.stitches.specs.Inside.{FreeWithin}
+use Rattle.stitches.proofs.Looks.{free-none, free-more, found-there, found-none, lost-told}
 use borrow.Author.Needs.{needs, sfits-of}
 use Rattle.stitches.proofs.first_lost.Statement.{statement}
 use Rattle.stitches.proofs.first_lost.Tie as tie
 
 abbrev Inv-loop : tie.InvT-loop
-Inv-loop samples i₀ i = FreeBelow samples i
+Inv-loop samples i₀ i = FreeWithin samples 0 i × (i ≤ length samples)
 
 abbrev μ-loop : tie.MeasureT-loop
 μ-loop samples i₀ i = length samples - i
 
 returns : tie.Need-returns Inv-loop μ-loop
-returns c = let e = c .if1 .taken in found-none (free-first _) (omega arith)
+returns c = let e = c .if1 .taken in found-none (free-none _ 0) (omega arith) (omega arith)
 
 shared-slice-copy-out-if2 : tie.Need-shared-slice-copy-out-if2 Inv-loop μ-loop
 shared-slice-copy-out-if2 c = search needs
@@ -26,7 +26,7 @@ shared-slice-copy-out-if2 c = search needs
 returns-2 : tie.Need-returns-2 Inv-loop μ-loop
 returns-2 c =
     let some = c .before .before .if1 .left in
-    found-there (free-first _) (omega arith) (sym (lost-told _ (sfits-of (c .before .if22 .given))) ∙ eq-eqb _ _ (c .if2 .taken))
+    found-there (free-none _ 0) (omega arith) (sym (lost-told _ (sfits-of (c .before .if22 .given))) ∙ eq-eqb _ _ (c .if2 .taken))
 
 free-blocks-requires : tie.Need-free-blocks-requires Inv-loop μ-loop
 free-blocks-requires c κs = search needs
@@ -43,7 +43,7 @@ shared-slice-copy-out-if3 c = search needs
 returns-3 : tie.Need-returns-3 Inv-loop μ-loop
 returns-3 c =
     let l = c .before .before .before .loop in
-    found-there (l .inv) (c .before .before .loop-test .taken) (sym (lost-told _ (sfits-of (c .before .if32 .given))) ∙ eq-eqb _ _ (c .if3 .taken))
+    found-there (l .inv .0) (c .before .before .loop-test .taken) (sym (lost-told _ (sfits-of (c .before .if32 .given))) ∙ eq-eqb _ _ (c .if3 .taken))
 
 add-i : tie.Need-add-i Inv-loop μ-loop
 add-i c = search needs
@@ -54,10 +54,11 @@ loop-less c = search needs
 loop-again : tie.Need-loop-again Inv-loop μ-loop
 loop-again c =
     let l = c .before .before .before .loop in
-    free-more (l .inv) (c .before .before .loop-test .taken) (sym (lost-told _ (sfits-of (c .before .if32 .given))) ∙ ne-eqb _ _ (c .if3 .left))
+    let h = c .before .before .loop-test .taken in
+    (free-more (l .inv .0) (sym (lost-told _ (sfits-of (c .before .if32 .given))) ∙ ne-eqb _ _ (c .if3 .left)), omega arith)
 
 returns-4 : tie.Need-returns-4 Inv-loop μ-loop
-returns-4 c = found-none (c .before .loop .inv) (c .loop-test .left)
+returns-4 c = found-none (c .before .loop .inv .0) (c .before .loop .inv .1) (c .loop-test .left)
 
 pub first-lost-spec : {M : Type 1} → statement M
 first-lost-spec =

@@ -1,24 +1,24 @@
 -- `free_blocks` meets its contract. The loop's invariant: none of the samples passed is lost. The measure is the samples left.
 -- Assumes nothing.
-use Prim.Native.Nat.{_-_}
+use Prim.Native.Nat.{_+_, _-_, _≤_}
 use mathlib.Core.Path.{sym, _∙_}
 use native.Mathlib.Omega.{arith}
 use denote.Ref.{now}
 use lib.ListN.{length}
-use Rattle.stitches.specs.Inside.{FreeBelow}
-use Rattle.stitches.proofs.Looks.{free-first, free-block}
+use Rattle.stitches.specs.Inside.{FreeWithin}
+use Rattle.stitches.proofs.Looks.{free-none, free-then, free-part}
 use borrow.Author.Needs.{needs}
 use Rattle.stitches.proofs.free_blocks.Statement.{statement}
 use Rattle.stitches.proofs.free_blocks.Tie as tie
 
 abbrev Inv-loop : tie.InvT-loop
-Inv-loop samples i₀ i = FreeBelow samples i
+Inv-loop samples i₀ i = FreeWithin samples 0 i × (i ≤ length samples)
 
 abbrev μ-loop : tie.MeasureT-loop
 μ-loop samples i₀ i = length samples - i
 
 loop-holds : tie.Need-loop-holds Inv-loop μ-loop
-loop-holds c = free-first _
+loop-holds c = (free-none _ 0, omega arith)
 
 sub-loop : tie.Need-sub-loop Inv-loop μ-loop
 sub-loop c = search needs
@@ -54,8 +54,8 @@ loop-again : tie.Need-loop-again Inv-loop μ-loop
 loop-again c =
     let l = c .before .before .before .before .loop in
     let h = c .before .before .before .loop-test .taken in
-    let w = l .inv .within in
-    free-block (now (c .before .before .before .before .before .args .samples)) (l .i) 64 (l .inv) (omega arith) (sym (c .if1 .left) ∙ c .before .holds-lost .ensures)
+    let w = l .inv .1 in
+    (free-then (l .inv .0) (free-part (now (c .before .before .before .before .before .args .samples)) (l .i) (l .i + 64) (omega arith) (omega arith) (sym (c .if1 .left) ∙ c .before .holds-lost .ensures)), omega arith)
 
 returns-2 : tie.Need-returns-2 Inv-loop μ-loop
 returns-2 c = c .before .loop .inv

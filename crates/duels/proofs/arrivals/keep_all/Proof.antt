@@ -2,15 +2,15 @@
 -- lost. The measure is the windows left.
 -- Assumes nothing.
 use Prim.Native.Nat.{_+_, _-_, _≤_}
-use mathlib.Core.Path.{_≡_, sym, _∙_, ap}
+use mathlib.Core.Path.{_≡_, sym, _∙_, ap, subst}
 use mathlib.Core.Bool.{false}
 use native.Mathlib.Omega.{arith}
 use lib.ListN.{length, set}
-use Rattle.stitches.proofs.Looks.{lost-told}
-use Rattle.duels.specs.Inside.Asked.{FreeWithin}
+use Rattle.stitches.specs.Inside.{FreeWithin}
+use Rattle.stitches.proofs.Looks.{lost-told, free-none, free-more}
 use Rattle.duels.specs.Inside.Stacks.{pushedRun}
 use Rattle.duels.proofs.StackLaws.{length-run, run-none, all-more}
-use Rattle.duels.proofs.LostRuns.{or-none, free-first, free-more}
+use Rattle.duels.proofs.LostRuns.{or-none}
 use borrow.Author.Needs.{needs, sfits-of}
 use Rattle.duels.proofs.arrivals.keep_all.Statement.{statement}
 use Rattle.duels.proofs.arrivals.keep_all.Tie as tie
@@ -23,7 +23,7 @@ abbrev μ-loop : tie.MeasureT-loop
 μ-loop trace reach windows survivors₀ lost₀ y₀ survivors lost y = windows - y
 
 loop-holds : tie.Need-loop-holds Inv-loop μ-loop
-loop-holds c = (sym (run-none _ _ _), (λ e. free-first _ _), omega arith)
+loop-holds c = (sym (run-none _ _ _), (λ e. subst (FreeWithin _ _) (omega arith) (free-none _ _)), omega arith)
 
 cast-survivors : tie.Need-cast-survivors Inv-loop μ-loop
 cast-survivors c = search needs
@@ -57,7 +57,7 @@ loop-again : tie.Need-loop-again Inv-loop μ-loop
 loop-again c =
     let l = c .before .before .loop in (
       ap (λ t. set t (l .y) (l .y)) (l .inv .0) ∙ sym (all-more _ (l .y)),
-      (λ e. let o = or-none (l .lost) _ e in free-more (l .y) (l .inv .1 (o .0)) (sym (lost-told _ (sfits-of (c .lost .given))) ∙ o .1)),
+      (λ e. let o = or-none (l .lost) _ e in subst (FreeWithin _ _) (omega arith) (free-more (l .inv .1 (o .0)) (sym (lost-told _ (sfits-of (c .lost .given))) ∙ o .1))),
       omega arith,
     )
 

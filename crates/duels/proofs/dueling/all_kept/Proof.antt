@@ -7,9 +7,9 @@ use denote.Ref.{now}
 use lib.ListN.{length}
 use Rattle.order.proofs.Tests.{clash}
 use Rattle.order.proofs.Lists.{windowsOf-as}
-use Rattle.duels.specs.Inside.Asked.{FreeWithin}
+use Rattle.stitches.specs.Inside.{FreeWithin}
+use Rattle.stitches.proofs.Looks.{free-then, free-part}
 use Rattle.duels.proofs.StackLaws.{same-first, same-run}
-use Rattle.duels.proofs.LostRuns.{both-free}
 use borrow.Author.Needs.{needs}
 use Rattle.duels.proofs.dueling.all_kept.Statement.{statement}
 use Rattle.duels.proofs.dueling.all_kept.Tie as tie
@@ -75,7 +75,7 @@ returns-4 c =
     let e = ends (k .before .before) in (
       (λ z.
           record {
-            free = both-free (now (s .args .pattern)) t (e .1) (sym (c .if3 .left) ∙ c .before .holds-lost .ensures)
+            free = free-then (free-part t 0 (length (now (s .args .pattern)) - 1) (omega arith) (e .1) (sym (c .if3 .left) ∙ c .before .holds-lost .ensures))
                 (subst (FreeWithin t (length (now (s .args .pattern)) - 1)) (e .0) (k .keep-all .ensures .1 (c .before .before .before .if2 .left)));
             pushed = k .keep-all .ensures .0;
           }),
