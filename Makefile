@@ -25,7 +25,7 @@ cases:
 host:
 	@rt staticlib tension_host
 
-# our speed beside the same algorithm in C, the KMP matcher and the naive one, as ratios in one run
+# our speed beside the same algorithm in C, the KMP matcher and the naive one, and on frames beside a plain matcher, as ratios in one run
 compare:
 	@bash host/compare/run.sh
 

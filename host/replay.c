@@ -6,8 +6,8 @@
  *
  * Beside that it looks at every byte itself: each buffer ends right at memory that can't be touched, or begins right after it with
  * --front, and guard bytes stand at its other end; each buffer has some bytes left over at its end, what is only read must stay,
- * and the counts buffer is tried at every length. With --front an empty buffer is given as a null pointer. A fault ends the run
- * with status 1.
+ * and the counts buffer is tried at every length. A frame is searched a second time with other samples wherever none counts. With
+ * --front an empty buffer is given as a null pointer. A fault ends the run with status 1.
  */
 #define _DEFAULT_SOURCE /* MAP_ANONYMOUS */
 #include <signal.h>
@@ -22,13 +22,14 @@ enum { TABLE = 1100, GUARD = 16, FILL = 0xAA };
 
 /*
  * The buffers of one case lie in rooms, one in each, with an edge on either side that can't be touched. A room takes 65,600
- * samples, the longest trace of a case. Both sizes are multiples of 64 KB, since memory is protected by pages and some machines
- * have such large ones.
+ * samples, the longest trace of a case; behind these rooms are a few large ones for what they don't take, the largest frame and its
+ * list. All sizes are multiples of 64 KB, since memory is protected by pages and some machines have such large ones.
  */
-enum { ROOMS = 14, EDGE = 1 << 16, ROOM = 5 << 16 };
+enum { ROOMS = 14, LARGE_ROOMS = 2, EDGE = 1 << 16, ROOM = 5 << 16, LARGE = 5 << 20 };
+enum { WHOLE = EDGE + ROOMS * (ROOM + EDGE) + LARGE_ROOMS * (LARGE + EDGE) };
 
-static uint8_t *rooms, before[ROOMS][ROOM], given[ROOM];
-static int taken, front;
+static uint8_t *rooms, before[WHOLE], given[ROOM];
+static int taken, large_taken, front;
 static unsigned long cases;
 
 static void fail(const char *what)
@@ -51,19 +52,27 @@ ALIGNED static void touched(int number)
     fail("a byte outside a buffer was read or written");
 }
 
+static size_t size(int k)
+{
+    return k < ROOMS ? ROOM : LARGE;
+}
+
 static uint8_t *room(int k)
 {
-    return rooms + EDGE + (size_t)k * (ROOM + EDGE);
+    size_t at = EDGE;
+    while (k-- > 0)
+        at += size(k) + EDGE;
+    return rooms + at;
 }
 
 static void build(void)
 {
     int k;
-    rooms = mmap(NULL, EDGE + ROOMS * (size_t)(ROOM + EDGE), PROT_NONE, MAP_PRIVATE | MAP_ANONYMOUS, -1, 0);
+    rooms = mmap(NULL, WHOLE, PROT_NONE, MAP_PRIVATE | MAP_ANONYMOUS, -1, 0);
     if (rooms == MAP_FAILED)
         fail("no memory");
-    for (k = 0; k < ROOMS; k++)
-        if (mprotect(room(k), ROOM, PROT_READ | PROT_WRITE) != 0)
+    for (k = 0; k < ROOMS + LARGE_ROOMS; k++)
+        if (mprotect(room(k), size(k), PROT_READ | PROT_WRITE) != 0)
             fail("no memory");
     signal(SIGSEGV, touched);
 }
@@ -76,14 +85,16 @@ struct buffer {
 
 static void make(struct buffer *b, size_t entries, size_t width, size_t over)
 {
+    int k;
     b->entries = entries;
     b->width = width;
     b->length = entries * width + over % width;
-    if (taken == ROOMS || b->length + GUARD > ROOM)
+    k = b->length + GUARD <= ROOM ? taken++ : ROOMS + large_taken++;
+    if (taken > ROOMS || large_taken > LARGE_ROOMS || b->length + GUARD > LARGE)
         fail("no room for a buffer");
-    b->bytes = front ? room(taken) : room(taken) + ROOM - b->length;
+    b->bytes = front ? room(k) : room(k) + size(k) - b->length;
     b->guard = front ? b->bytes + b->length : b->bytes - GUARD;
-    b->before = before[taken++];
+    b->before = before + (b->bytes - rooms);
     memset(b->bytes, FILL, b->length);
     memset(b->guard, FILL, GUARD);
 }
@@ -91,6 +102,11 @@ static void make(struct buffer *b, size_t entries, size_t width, size_t over)
 static void remember(struct buffer *b)
 {
     memcpy(b->before, b->bytes, b->length);
+}
+
+static int same(const struct buffer *b)
+{
+    return memcmp(b->bytes, b->before, b->length) == 0;
 }
 
 /* Nothing outside the first `written` entries has changed. */
@@ -130,6 +146,12 @@ static uint32_t number(int width)
         v |= (uint32_t)c << (8 * k);
     }
     return v;
+}
+
+static uint64_t long_number(void)
+{
+    uint64_t v = number(4);
+    return v | (uint64_t)number(4) << 32;
 }
 
 static void samples(struct buffer *b, size_t over)
@@ -377,8 +399,7 @@ static void write_case(void)
     uint64_t in_use, answer;
 
     make_bytes(&buffer, length, number(4));
-    in_use = number(4);
-    in_use |= (uint64_t)number(4) << 32;
+    in_use = long_number();
     samples(&list, 0);
     stored = make_numbers(&told, 1);
     answer = tension_write(lent(&buffer), buffer.length, in_use, (const int32_t *)(const void *)lent(&list), list.entries, stored);
@@ -400,6 +421,102 @@ static void write_case(void)
         ;
 }
 
+/* The arguments of a search in a frame; at `told` the call stores the places tried and the number found. */
+struct frame {
+    size_t height, width, pitch, h, k, *told;
+    struct buffer samples, patch, positions, numbers;
+};
+
+/* Grey levels: those that are given, over and over. */
+static void greys(struct buffer *b)
+{
+    uint32_t count = number(4), levels = number(4), width = number(1), k;
+    make(b, count, 2, 0);
+    if (levels > count || (levels == 0 && count > 0))
+        fail("more or fewer grey levels than a buffer can start with");
+    for (k = 0; k < count; k++)
+        put(b, k, k < levels ? number((int)width) : get(b, k - levels));
+    remember(b);
+}
+
+static void read_frame(struct frame *f)
+{
+    f->height = long_number();
+    f->width = long_number();
+    f->pitch = long_number();
+    f->h = long_number();
+    f->k = long_number();
+    greys(&f->samples);
+    greys(&f->patch);
+    make(&f->positions, number(4), 4, 0);
+    remember(&f->positions);
+    f->told = make_numbers(&f->numbers, 2);
+}
+
+static uint64_t call_frame(const struct frame *f)
+{
+    return tension_frame((const uint16_t *)(const void *)lent(&f->samples), f->samples.entries, f->height, f->width, f->pitch,
+                         (const uint16_t *)(const void *)lent(&f->patch), f->patch.entries, f->h, f->k,
+                         (uint32_t *)(void *)lent(&f->positions), f->positions.entries, &f->told[0], &f->told[1]);
+}
+
+/* Only the list's first `places` entries have changed, and the two numbers if they were stored. */
+static void look_at_frame(const struct frame *f, size_t places, int stored)
+{
+    look(&f->samples, 0);
+    look(&f->patch, 0);
+    look(&f->positions, places);
+    look(&f->numbers, stored ? 2 : 0);
+}
+
+/*
+ * Changes each sample that has no say: all of a refused call, since a refusal is told by numbers alone, and otherwise those between
+ * the frame's rows, behind its last one and behind the patch.
+ */
+static void change(struct frame *f, int refused)
+{
+    size_t j;
+    for (j = 0; j < f->samples.entries; j++)
+        if (refused || j / f->pitch >= f->height || j % f->pitch >= f->width)
+            put(&f->samples, j, ~get(&f->samples, j));
+    for (j = 0; j < f->patch.entries; j++)
+        if (refused || j >= f->h * f->k)
+            put(&f->patch, j, ~get(&f->patch, j));
+    remember(&f->samples);
+    remember(&f->patch);
+}
+
+static void frame_case(void)
+{
+    struct frame f;
+    uint64_t answer;
+    size_t places = 0;
+
+    read_frame(&f);
+    answer = call_frame(&f);
+    printf("frame %lu %lu", (unsigned long)TENSION_NUMBER(answer), (unsigned long)TENSION_PLACE(answer));
+    if (!answer) {
+        places = f.told[0];
+        printf(" %lu %lu", (unsigned long)f.told[0], (unsigned long)f.told[1]);
+    }
+    printf("\n");
+    show("positions", &f.positions);
+    look_at_frame(&f, places, !answer);
+    if (places > f.positions.entries)
+        fail("more places than the list has room for");
+
+    /* Again: what was stored has to be stored anew, and to be the same. */
+    change(&f, answer != 0);
+    remember(&f.positions);
+    remember(&f.numbers);
+    memset(f.positions.bytes, FILL, 4 * places);
+    if (!answer)
+        memset(f.numbers.bytes, FILL, f.numbers.length);
+    if (call_frame(&f) != answer || !same(&f.positions) || !same(&f.numbers))
+        fail("samples that have no say change the answer");
+    look_at_frame(&f, 0, 0);
+}
+
 int main(int argc, char **argv)
 {
     uint32_t kind;
@@ -411,7 +528,7 @@ int main(int argc, char **argv)
     build();
     while ((kind = number(1)) != 0) {
         cases++;
-        taken = 0; /* the rooms of the case before are free again */
+        taken = large_taken = 0; /* the rooms of the case before are free again */
         if (kind == 1)
             prepare_case();
         else if (kind == 2)
@@ -420,6 +537,8 @@ int main(int argc, char **argv)
             read_case();
         else if (kind == 6)
             write_case();
+        else if (kind == 7)
+            frame_case();
         else
             fail("a kind of case that a host does not have");
     }

@@ -1,6 +1,7 @@
 /*
  * stack.c - measures the stack that the calls take: each runs on a painted stack, and what is no longer painted below the caller's
- * frame was used. The path of a call depends on the pattern, the tables and the lengths, so all kinds of these are tried.
+ * frame was used. The path of a call depends on the pattern, the tables and the lengths, and on the patch and the columns that are tried
+ * in a frame, so all kinds of these are tried.
  *
  * Prints a line for each group of calls: the most bytes that one took, the first that took them, the limit of docs/HOST.md, and how
  * many of the bytes were written. Ends with status 1 where a call takes or writes more than its limit or answers anything but what
@@ -36,10 +37,18 @@ enum {
     LARGE, LARGE_REFUSED,
     READ, READ_REFUSED,
     WRITTEN, WRITE_REFUSED,
+    FRAME, FRAME_REFUSED,
     GROUPS
 };
 
-enum { RECORDING_LIMIT = 200, PREPARE_LIMIT = 15000, BRIEF_WRITTEN = 30000, SMALL_LIMIT = 54000, LARGE_LIMIT = 960000 };
+enum {
+    RECORDING_LIMIT = 200,
+    PREPARE_LIMIT = 15000,
+    BRIEF_WRITTEN = 30000,
+    FRAME_LIMIT = 32000,
+    SMALL_LIMIT = 54000,
+    LARGE_LIMIT = 960000
+};
 
 static const struct group {
     const char *what;
@@ -61,6 +70,8 @@ static const struct group {
     [READ_REFUSED] = {"tension_read, refused", RECORDING_LIMIT, 0, 0},
     [WRITTEN] = {"tension_write", RECORDING_LIMIT, 0, 0},
     [WRITE_REFUSED] = {"tension_write, refused", RECORDING_LIMIT, 0, 0},
+    [FRAME] = {"tension_frame", FRAME_LIMIT, 0, 0},
+    [FRAME_REFUSED] = {"tension_frame, refused", FRAME_LIMIT, 0, 0},
 };
 
 /* A number of bytes, and the call that it was seen at. */
@@ -110,6 +121,22 @@ static void read_file(void)
 static void write_file(void)
 {
     answer = tension_write(BUFFER(FILE_BYTES), in_use, samples, sample_count, &stored[0]);
+}
+
+/* What a search of a frame takes: buffers with room for the largest frame and its margins, and the numbers handed over. */
+enum { MARGIN = 7 };
+
+static uint16_t grey[TENSION_FRAME_LIMIT * (TENSION_FRAME_LIMIT + MARGIN)], patch[TENSION_PATCH_LIMIT];
+static uint32_t places[TENSION_FRAME_LIMIT * TENSION_FRAME_LIMIT];
+
+static struct scene {
+    size_t samples, height, width, pitch, patch, h, k, places;
+} scene;
+
+static void search_frame(void)
+{
+    answer = tension_frame(grey, scene.samples, scene.height, scene.width, scene.pitch, patch, scene.patch, scene.h, scene.k,
+                           places, scene.places, &stored[0], &stored[1]);
 }
 
 /* The painted stack, in words that no call is likely to leave there. Below `lowest` nothing has been touched since it was painted. */
@@ -391,6 +418,70 @@ static void recordings(size_t count, size_t lead)
     measure(WRITE_REFUSED, write_file, refusal(TENSION_LONG_LEAD, 0), format, count, lead, (unsigned)TENSION_LONG_LEAD);
 }
 
+/* A frame of a kind, rows MARGIN further apart than they are wide, and a patch that is its middle or, where it doesn't fit, of its kind. */
+static void fill_scene(int kind, size_t height, size_t width, size_t h, size_t k)
+{
+    int fits = h <= height && k <= width;
+    size_t j, pitch = width + MARGIN, middle = fits ? (height - h) / 2 * pitch + (width - k) / 2 : 0;
+
+    for (j = 0; j < height * pitch; j++)
+        grey[j] = (uint16_t)sample(kind, j / pitch * width + j % pitch);
+    for (j = 0; j < h * k; j++)
+        patch[j] = fits ? grey[middle + j / k * pitch + j % k] : (uint16_t)sample(kind, j);
+    scene = (struct scene){TENSION_FRAME_SAMPLES(height, width, pitch), height, width, pitch, h * k, h, k,
+                           TENSION_FRAME_PLACES(height, width, h, k)};
+}
+
+/* A search that is accepted as it is and, with one of its numbers changed, refused. */
+static void refuse_scene(size_t *number, size_t value, uint32_t refused)
+{
+    size_t own = *number;
+
+    *number = value;
+    measure(FRAME_REFUSED, search_frame, refusal(refused, 0), "frame of %zu x %zu, patch of %zu x %zu, refusal %u", scene.height,
+            scene.width, scene.h, scene.k, (unsigned)refused);
+    *number = own;
+}
+
+static void refuse_scenes(void)
+{
+    size_t *const sizes[] = {&scene.height, &scene.width, &scene.h, &scene.k};
+    int k;
+
+    for (k = 0; k < 4; k++) {
+        refuse_scene(sizes[k], 0, TENSION_ZERO_SIZE);
+        refuse_scene(sizes[k], TENSION_FRAME_LIMIT + 1, TENSION_LARGE_SIZE);
+        refuse_scene(sizes[k], (size_t)-1, TENSION_LARGE_SIZE);
+    }
+    refuse_scene(&scene.pitch, scene.width - 1, TENSION_NARROW_PITCH);
+    refuse_scene(&scene.samples, scene.samples - 1, TENSION_SHORT_FRAME);
+    refuse_scene(&scene.patch, scene.patch - 1, TENSION_SHORT_FRAME);
+    if (scene.height > 1)
+        refuse_scene(&scene.pitch, (size_t)-1, TENSION_SHORT_FRAME);
+    if (scene.places > 0)
+        refuse_scene(&scene.places, scene.places - 1, TENSION_SHORT_PLACES);
+}
+
+/*
+ * Frames in which one column is tried, some, and all that a frame can have; patches of one sample, as large as they can be in one row and
+ * in 32, and of sizes between; and some that are taller or wider than the frame.
+ */
+static void frames(int kind)
+{
+    static const size_t sizes[][2] = {{1, 1}, {3, 63}, {40, 65}, {34, 96}, {33, 200}, {2, TENSION_FRAME_LIMIT}};
+    static const size_t patches[][2] = {{1, 1}, {2, 2}, {3, 5}, {8, 8}, {32, 32}, {31, 33}, {1, TENSION_PATCH_LIMIT}};
+    enum { SIZES = sizeof sizes / sizeof *sizes, PATCHES = sizeof patches / sizeof *patches };
+    int s, p;
+
+    for (s = 0; s < SIZES; s++)
+        for (p = 0; p < PATCHES; p++) {
+            fill_scene(kind, sizes[s][0], sizes[s][1], patches[p][0], patches[p][1]);
+            measure(FRAME, search_frame, TENSION_ACCEPTED, "%s frame of %zu x %zu, patch of %zu x %zu", kinds[kind], scene.height,
+                    scene.width, scene.h, scene.k);
+            refuse_scenes();
+        }
+}
+
 /* Says of a group what is wrong with it. */
 static int wrong(int group, const char *what, const struct seen *seen, size_t limit)
 {
@@ -454,6 +545,10 @@ int main(void)
         recordings(1000, k);
         recordings(TENSION_RECORDING_LIMIT, k);
     }
+    for (kind = 0; kind < KINDS; kind++)
+        frames(kind);
+    fill_scene(RANDOM, TENSION_FRAME_LIMIT, TENSION_FRAME_LIMIT, 4, 4);
+    measure(FRAME, search_frame, TENSION_ACCEPTED, "the largest frame");
     for (g = 0; g < GROUPS; g++)
         good &= within(g);
     return good ? 0 : 1;

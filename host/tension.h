@@ -1,22 +1,25 @@
 /*
- * tension.h - same-order search on tension traces, for C and C++ hosts.
+ * tension.h - same-order search on tension traces and camera frames, for C and C++ hosts.
  *
- * Four calls: tension_prepare makes a pattern's four tables, tension_search finds every window of a trace whose samples stand in
- * the same order as the pattern's (equal samples count as equal); tension_read takes a recording apart, tension_write makes one. All
- * are proved to meet docs/RULES.md; docs/HOST.md tells how to link and what is asked of the caller.
+ * Five calls: tension_prepare makes a pattern's four tables, tension_search finds every window of a trace whose samples stand in
+ * the same order as the pattern's (equal samples count as equal); tension_read takes a recording apart, tension_write makes one;
+ * tension_frame finds every place of a camera's frame whose grey levels stand in the same order as a patch's. All are proved to meet
+ * docs/RULES.md; docs/HOST.md tells how to link and what is asked of the caller.
  *
  * The sample TENSION_LOST is a lost stitch: the sensor board sends it while the arm is lifted, so it tells no tension. A search leaves
- * out every window that holds one, and a pattern with one is refused. Recordings hold it like any other sample.
+ * out every window that holds one, and a pattern with one is refused. Recordings hold it like any other sample. Frames know no such value:
+ * every grey level is an ordinary one.
  *
  * A buffer named in bytes is a pointer and then a length in BYTES. For tension_prepare and tension_search it holds as many entries as fit
  * into that length without being cut; what is too short for one more stays untouched and unread. All numbers in it are little-endian:
  * samples are signed 32 bit in two's complement, table entries are unsigned 16 bit, survivors, positions and counts are unsigned 32 bit.
  * No alignment is asked of such a buffer. tension_read and tension_write have samples as an array of int32_t, a pointer and then a number
- * of SAMPLES; on x86-64 its bytes are just what tension_prepare and tension_search take.
+ * of SAMPLES; on x86-64 its bytes are just what tension_prepare and tension_search take. tension_frame has arrays of uint16_t and uint32_t,
+ * a pointer and then a number of ENTRIES; it works on them where they lie and copies no frame.
  *
- * What the caller must see to: each pointer is valid for its length, those to int32_t and size_t are aligned for it, and no two buffers
- * of one call overlap, nor does one overlap a number that the call stores. A length of 0 may go with any pointer to a buffer. The calls
- * keep no state and call nothing but memcpy and memset.
+ * What the caller must see to: each pointer is valid for its length, and nothing else writes there while the call lasts; those to
+ * uint16_t, int32_t, uint32_t and size_t are aligned for it; no two buffers of one call overlap, nor does one overlap a number that the
+ * call stores. A length of 0 may go with any pointer to a buffer. The calls keep no state and call nothing but memcpy and memset.
  */
 #ifndef TENSION_H
 #define TENSION_H
@@ -30,20 +33,31 @@ extern "C" {
 
 /* The version of calls and answers; CHANGELOG.md says what moved with each. */
 #define TENSION_VERSION_MAJOR 1
-#define TENSION_VERSION_MINOR 3
+#define TENSION_VERSION_MINOR 4
 
 /* Limits, in samples. */
 #define TENSION_PATTERN_LIMIT 1024
 #define TENSION_TRACE_LIMIT 65536
 #define TENSION_RECORDING_LIMIT 65536 /* in one recording that is written */
+#define TENSION_FRAME_LIMIT 1024      /* in a row of a frame, and in a column */
+#define TENSION_PATCH_LIMIT 1024      /* in a patch, rows times columns */
 
 /* Bytes of a recording of so many samples: four each, and the trailer. For a number of samples up to TENSION_RECORDING_LIMIT. */
 #define TENSION_RECORDING_BYTES(samples) (4 * (size_t)(samples) + 12)
 
+/* Samples that a frame's buffer needs: the last row ends at its last column. For a height of 1 or more, and a frame that fits into memory. */
+#define TENSION_FRAME_SAMPLES(height, width, pitch) (((size_t)(height) - 1) * (size_t)(pitch) + (size_t)(width))
+
+/* Places of a patch of h rows and k columns in a frame, which are the entries that its list needs. For sizes that no call refuses. */
+#define TENSION_FRAME_PLACES(height, width, h, k) \
+    ((size_t)(h) > (size_t)(height) || (size_t)(k) > (size_t)(width) \
+         ? (size_t)0 \
+         : ((size_t)(height) - (size_t)(h) + 1) * ((size_t)(width) - (size_t)(k) + 1))
+
 /* A sample that is a lost stitch: -2147483648, put so that no part of it is too large for a signed number of 32 bits. */
 #define TENSION_LOST (-2147483647 - 1)
 
-/* A table entry that names no place, and an entry of survivors or positions that holds no window. */
+/* A table entry that names no place, and an entry of survivors or positions that holds no window and no place of a frame. */
 #define TENSION_NONE 65535u
 #define TENSION_UNUSED 4294967295u
 
@@ -77,6 +91,11 @@ extern "C" {
 #define TENSION_MANY_SAMPLES 19      /* 0 */
 #define TENSION_SHORT_BUFFER 20      /* 0 */
 #define TENSION_LOST_STITCH 21       /* the first place of the pattern that holds a lost stitch */
+#define TENSION_ZERO_SIZE 22         /* 0 */
+#define TENSION_LARGE_SIZE 23        /* 0 */
+#define TENSION_NARROW_PITCH 24      /* 0 */
+#define TENSION_SHORT_FRAME 25       /* 0 */
+#define TENSION_SHORT_PLACES 26      /* 0 */
 
 /* What a call answers, taken apart. A place above 4294967295 is given as 4294967295. */
 #define TENSION_NUMBER(answer) ((uint32_t)((answer) >> 32))
@@ -129,6 +148,23 @@ uint64_t tension_read(const uint8_t *bytes, size_t bytes_length,
 uint64_t tension_write(uint8_t *buffer, size_t buffer_bytes, size_t in_use,
                        const int32_t *samples, size_t samples_count,
                        size_t *length);
+
+/*
+ * Searches a frame of height rows and width columns (1 to 1,024 each) for a patch of h rows and k columns (h times k 1 to 1,024). Sample
+ * (row, column) of the frame stands at row * pitch + column, and whatever lies between width and pitch counts for nothing; the patch is
+ * the first h * k samples of its buffer, row by row. The patch matches at (row, column) if the h times k samples that begin there stand
+ * in its order. *places gets the number of places tried, (height - h + 1) * (width - k + 1), or 0 where the patch is taller or wider
+ * than the frame; *found how many of them match. positions needs room for *places entries, and just these are written: row * width +
+ * column of each that matches, by rows and then by columns, then TENSION_UNUSED. Answers 0, or a refusal (22 a size is 0, 23 height or
+ * width above 1,024 or h times k, 24 pitch below width, 25 the frame needs more samples than it has or the patch does, 26 positions is
+ * too short), and then nothing has been stored.
+ */
+uint64_t tension_frame(const uint16_t *samples, size_t samples_length,
+                       size_t height, size_t width, size_t pitch,
+                       const uint16_t *patch, size_t patch_length,
+                       size_t h, size_t k,
+                       uint32_t *positions, size_t positions_length,
+                       size_t *places, size_t *found);
 
 #ifdef __cplusplus
 }

@@ -1,9 +1,9 @@
 /*
  * compare.c - times tension_search, the whole call, beside the matchers of matchers.h: same buffers, same machine, one run, answers
  * checked. Prints a table of ratios (ours / theirs; below 1 we are ahead), the worst and the geometric mean of each column, the
- * preparation, and the share of the tables' check. With --svg FILE it draws the ratios too.
+ * preparation, and the share of the tables' check; then the table of frames (frames.h). With --svg FILE it draws the traces' ratios too.
  *
- *     compare [--svg FILE] [--short] [--note TEXT]   all rows, or one short row of each trace; the note stands above table and picture
+ *     compare [--svg FILE] [--short] [--note TEXT]   all rows, or a short one of each trace and frame; the note stands above them
  *     compare --count WHO KIND M N CALLS             only makes CALLS calls of WHO (ours, same, kmp, naive): to count instructions
  *
  * Each time is the best of 9 samples; a sample is as many calls as take a millisecond.
@@ -14,6 +14,7 @@
 #include <string.h>
 
 #include "../tension.h"
+#include "frames.h"
 #include "rows.h"
 
 enum { SAMPLES = 9, COLUMNS = 3 };
@@ -303,6 +304,7 @@ int main(int argc, char **argv)
                     measure(kinds[k], ms[mi], ns[ni]);
     sum_up();
     preparation();
+    compare_frames(shorter);
     if (svg)
         draw(svg);
     return 0;

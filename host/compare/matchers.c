@@ -262,3 +262,58 @@ size_t naive_search(size_t m, const struct tables *t, const int32_t *trace, size
         found += naive_stretch(m, t, trace, s.from, s.end, positions + found);
     return found;
 }
+
+/* A sample of a patch and its neighbours: where they stand in the frame, from the patch's first sample on. */
+struct step {
+    uint32_t at, low, high;
+};
+
+#define NOWHERE UINT32_MAX
+
+static void make_steps(const uint16_t *patch, size_t h, size_t k, size_t pitch, struct step *steps)
+{
+    int32_t p[LONGEST] = {0};
+    uint16_t low[LONGEST], high[LONGEST];
+    for (size_t j = 0; j < h * k; j++)
+        p[j] = patch[j];
+    neighbours(p, h * k, low, high);
+    for (size_t j = 0; j < h * k; j++) {
+        steps[j].at = (uint32_t)(j / k * pitch + j % k);
+        steps[j].low = low[j] == NONE ? NOWHERE : steps[low[j]].at;
+        steps[j].high = high[j] == NONE ? NOWHERE : steps[high[j]].at;
+    }
+}
+
+/* Whether a sample, not the first, stands to its neighbours in a frame from v on as it does in the patch. */
+static inline int stands(const struct step *s, const uint16_t *v)
+{
+    uint16_t x = v[s->at];
+    if (s->low == s->high)
+        return x == v[s->low];
+    if (s->low != NOWHERE && x <= v[s->low])
+        return 0;
+    return s->high == NOWHERE || x < v[s->high];
+}
+
+size_t plain_frame(const uint16_t *restrict frame, size_t height, size_t width, size_t pitch, const uint16_t *restrict patch, size_t h,
+                   size_t k, uint32_t *restrict positions, size_t *restrict places)
+{
+    struct step steps[LONGEST];
+    size_t m = h * k, found = 0;
+    *places = h <= height && k <= width ? (height - h + 1) * (width - k + 1) : 0;
+    if (*places == 0)
+        return 0;
+    make_steps(patch, h, k, pitch, steps);
+    for (size_t r = 0; r + h <= height; r++)
+        for (size_t c = 0; c + k <= width; c++) {
+            const uint16_t *v = frame + r * pitch + c;
+            size_t j = 1;
+            while (j < m && stands(&steps[j], v))
+                j++;
+            if (j >= m)
+                positions[found++] = (uint32_t)(r * width + c);
+        }
+    for (size_t i = found; i < *places; i++)
+        positions[i] = 4294967295u;
+    return found;
+}

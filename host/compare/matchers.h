@@ -1,5 +1,6 @@
 /*
- * What tension_search is compared with. All four list the same positions; typed arrays, tables prepared beforehand.
+ * What tension_search and tension_frame are compared with. On traces all four list the same positions; typed arrays, tables prepared
+ * beforehand.
  *
  * A window that holds a lost stitch is no match. Each matcher here looks for lost stitches once and searches the stretches between them,
  * so that a trace with none costs it one scan and nothing else.
@@ -34,5 +35,11 @@ size_t kmp_search(size_t m, const struct tables *t, const uint16_t *fail, const 
 
 /* Each window that holds no lost stitch, until its first failing place. */
 size_t naive_search(size_t m, const struct tables *t, const int32_t *trace, size_t n, uint32_t *positions);
+
+/* Frames, the plain way: each place, until the first sample of the patch that stands otherwise to its two neighbours. These are looked
+ * up inside the call, by going over the earlier samples, and so are the places of all three in the frame. Lists as tension_frame does,
+ * and answers how many are found. For frames of less than 2^32 samples. */
+size_t plain_frame(const uint16_t *frame, size_t height, size_t width, size_t pitch, const uint16_t *patch, size_t h, size_t k,
+                   uint32_t *positions, size_t *places);
 
 #endif

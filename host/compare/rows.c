@@ -16,7 +16,12 @@ size_t m, n;
 
 static uint32_t state;
 
-static uint32_t next(void)
+void roll_anew(void)
+{
+    state = 12345;
+}
+
+uint32_t roll(void)
 {
     state = state * 1664525u + 1013904223u;
     return state >> 8;
@@ -41,10 +46,10 @@ static int goes(const char *kind, const char *name)
 static void fill(const char *kind, int32_t *v, size_t length)
 {
     int32_t level = 0;
-    state = 12345;
+    roll_anew();
     for (size_t k = 0; k < length; k++) {
         if (goes(kind, "random"))
-            v[k] = (int32_t)(next() % 2000000) - 1000000;
+            v[k] = (int32_t)(roll() % 2000000) - 1000000;
         else if (goes(kind, "equal"))
             v[k] = 7;
         else if (goes(kind, "monotone"))
@@ -52,9 +57,9 @@ static void fill(const char *kind, int32_t *v, size_t length)
         else if (goes(kind, "sawtooth"))
             v[k] = (int32_t)(k % 9);
         else if (goes(kind, "walk"))
-            v[k] = level += (int32_t)(next() % 21) - 10;
+            v[k] = level += (int32_t)(roll() % 21) - 10;
         else
-            v[k] = level += k % 16 ? 0 : (int32_t)(next() % 5) - 2;
+            v[k] = level += k % 16 ? 0 : (int32_t)(roll() % 5) - 2;
     }
 }
 
@@ -62,7 +67,7 @@ static void fill(const char *kind, int32_t *v, size_t length)
 static void lose(int32_t *v, size_t length)
 {
     for (size_t k = 0; k < length; k += 100)
-        v[next() % length] = LOST;
+        v[roll() % length] = LOST;
 }
 
 void make_row(const char *kind, size_t length, size_t samples)

@@ -1,4 +1,4 @@
-/* The rows of the comparison: traces of nine kinds with patterns cut from them, and the clock. */
+/* The rows of the comparison: traces of nine kinds with patterns cut from them; the draws that they are made by, and the clock. */
 #ifndef ROWS_H
 #define ROWS_H
 
@@ -34,6 +34,10 @@ void search_by(search_call *call, const struct tables *t, size_t samples, uint32
 
 /* Whether an archive knows lost stitches, by its tension_prepare: it refuses a pattern that holds one. */
 int knows_lost(prepare_call *call);
+
+/* Numbers of 24 bits that look drawn at random, the same in every run: from the first one on again, and the next. */
+void roll_anew(void);
+uint32_t roll(void);
 
 /* Seconds a call, of that many. */
 double a_call(void (*call)(void), size_t calls);

@@ -1,5 +1,5 @@
 #!/usr/bin/env bash
-# `make compare`: all rows as a table, and drawn in target/compare.svg.
+# `make compare`: all rows, a table of traces, which is drawn in target/compare.svg too, and one of frames.
 set -euo pipefail
 cd "$(dirname "$0")/../.."
 work=$(mktemp -d)

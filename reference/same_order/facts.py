@@ -8,11 +8,14 @@ RECORDING_MAX = 65536        # samples that are written at once
 INPUT_MAX = 16384            # bytes the program takes
 PROGRAM_PATTERN = 1024       # samples its two buffers hold
 PROGRAM_TRACE = 2048
+FRAME_MAX = 1024             # rows of a frame, and columns
+PATCH_MAX = 1024             # samples of a patch
 
 NONE = 65535                 # table entry: no such place
 UNUSED = 4294967295          # list entry: nothing here
 SAMPLE_MIN, SAMPLE_MAX = -2147483648, 2147483647
 LOST = SAMPLE_MIN            # a lost stitch: sent when the arm lifts, no tension
+GREY_MAX = 65535             # the brightest grey level; the darkest is 0
 
 
 class Counts(NamedTuple):

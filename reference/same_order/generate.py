@@ -3,7 +3,7 @@
 import random
 from itertools import islice
 
-from . import brute, recording, report, rules
+from . import brute, recording, report, rules, scenes
 from .facts import LOST, NONE, PATTERN_MAX, RECORDING_MAX, SAMPLE_MAX, SAMPLE_MIN, TRACE_MAX, UNUSED, windows
 from .stream import TABLE_ROOM, Agree, Prepare, Read, Report, Search, Write
 
@@ -562,9 +562,10 @@ def write_corners():
 
 
 CORNERS = {"prepare": prepare_corners, "search": search_corners, "agree": agree_corners,
-           "read": read_corners, "report": report_corners, "write": write_corners}
+           "read": read_corners, "report": report_corners, "write": write_corners,
+           "frame": scenes.corners}
 DRAWS = {"prepare": prepare_case, "search": search_case, "agree": agree_case,
-         "read": read_case, "report": report_case, "write": write_case}
+         "read": read_case, "report": report_case, "write": write_case, "frame": scenes.draw}
 KINDS = (*DRAWS, "all")
 
 

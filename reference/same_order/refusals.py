@@ -1,11 +1,11 @@
 """Every refusal: number, condition and place stand here and nowhere else.
 
 Each function raises Refused when its condition holds. The order in which a
-call tries them is the order of the lines in that call (calls, recording,
-report).
+call tries them is the order of the lines in that call (calls, frames,
+recording, report).
 """
 
-from .facts import INPUT_MAX, LOST, PATTERN_MAX, RECORDING_MAX, TRACE_MAX
+from .facts import FRAME_MAX, INPUT_MAX, LOST, PATCH_MAX, PATTERN_MAX, RECORDING_MAX, TRACE_MAX
 
 
 class Refused(Exception):
@@ -32,6 +32,11 @@ class Refused(Exception):
         19: "too many samples for a recording",
         20: "no room for samples and trailer",
         21: "the pattern holds a lost stitch",
+        22: "a frame or a patch without a row or without a column",
+        23: "the frame or the patch is too large",
+        24: "the pitch is below the width",
+        25: "the frame or the patch has too few samples",
+        26: "the positions buffer has too few entries for the places tried",
     }
 
     def __init__(self, number, place):
@@ -121,3 +126,29 @@ def recording_room(length, needed):
     """`needed` is where the trailer would end. Whole numbers: no wrapping."""
     if needed > length:
         raise Refused(20, 0)
+
+
+def frame_empty(height, width, h, k):
+    if 0 in (height, width, h, k):
+        raise Refused(22, 0)
+
+
+def frame_large(height, width, h, k):
+    """Whole numbers: no wrapping, here and for the samples needed."""
+    if height > FRAME_MAX or width > FRAME_MAX or h * k > PATCH_MAX:
+        raise Refused(23, 0)
+
+
+def frame_pitch(width, pitch):
+    if pitch < width:
+        raise Refused(24, 0)
+
+
+def frame_samples(samples, needed, patch, patch_needed):
+    if samples < needed or patch < patch_needed:
+        raise Refused(25, 0)
+
+
+def frame_room(room, tried):
+    if room < tried:
+        raise Refused(26, 0)

@@ -5,17 +5,19 @@ Each kind of case is a class that can write itself (encode), be read back
 the bytes and the lines.
 """
 
+import random
 import struct
 from dataclasses import dataclass, field
-from itertools import groupby
+from itertools import cycle, groupby, islice
 
-from . import brute, calls, recording, report
+from . import brute, calls, frames, recording, report
 from .facts import Tables, UNUSED, windows
 from .refusals import Refused
 
 GUARD8, GUARD16, GUARD32, GUARD_SAMPLE = 170, 43690, 2863311530, -1431655766
 TABLE_ROOM = 1100            # entries of the tables a search case prepares
 LONG_CHECK = 20000           # pairs times windows beyond which ranks are used
+SOME_CHECK = 100000          # samples times places beyond which ranks are used for some places only
 
 
 # --- bytes -----------------------------------------------------------------
@@ -34,6 +36,29 @@ def put_samples(samples):
 
 def put_entries(entries):
     return put(f"H{len(entries)}H", len(entries), *entries)
+
+
+@dataclass
+class Greys:
+    """A buffer of grey levels: those given, over and over, until there are `count`."""
+    given: list
+    count: int
+
+    @classmethod
+    def of(cls, samples):
+        return cls(samples, len(samples))
+
+    def resized(self, count):
+        """A buffer of another length that starts alike."""
+        return Greys(self.given[:count], count)
+
+    def whole(self):
+        return list(islice(cycle(self.given), self.count))
+
+    def encode(self):
+        width, form = (1, "B") if max(self.given, default=0) <= 255 else (2, "H")
+        given = len(self.given)
+        return put(f"IIB{given}{form}", self.count, given, width, *self.given)
 
 
 class Reader:
@@ -63,6 +88,11 @@ class Reader:
 
     def bytes(self):
         return self.one(f"{self.one('I')}s")
+
+    def greys(self):
+        count, given, width = self.take("IIB")
+        form = {1: "B", 2: "H"}[width]
+        return Greys(list(self.take(f"{given}{form}")), count)
 
 
 # --- lines -----------------------------------------------------------------
@@ -95,6 +125,25 @@ def confirm(pattern, trace, listed):
     plain = (brute.positions if few else brute.positions_by_rank)(pattern, trace)
     if plain != listed:
         raise AssertionError(f"rules list {listed}, brute force {plain}: {pattern} in {trace}")
+
+
+def confirm_frame(samples, patch, sizes, listed):
+    """Judge places anew, each by itself: all, or of very many some. Raise if the list says otherwise."""
+    size, tried = sizes.patch_needed(), sizes.tried()
+    patch = patch[:size]
+    if tried * size <= SOME_CHECK:
+        few = tried * size ** 2 <= LONG_CHECK
+        plain = (frames.positions_by_pairs if few else frames.positions_by_rank)(samples, patch, sizes)
+        if plain != listed:
+            raise AssertionError(f"listed {listed}, by the definition {plain}: {patch}, {sizes}, {samples}")
+        return
+    draw, share, wanted = random.Random(tried), SOME_CHECK // size, brute.ranks(patch)
+    those, places = set(listed), draw.sample(sizes.places(), share)
+    places += [divmod(place, sizes.width) for place in draw.sample(listed, min(share, len(listed)))]
+    for r, c in places:
+        right = brute.ranks(frames.under(samples, sizes, r, c)) == wanted
+        if right != (r * sizes.width + c in those):
+            raise AssertionError(f"row {r}, column {c}, by the definition {right}: {patch[:9]}.., {sizes}")
 
 
 # --- the kinds -------------------------------------------------------------
@@ -254,7 +303,34 @@ class Write:
         return "".join(lines)
 
 
-KINDS = {1: Prepare, 2: Search, 3: Agree, 4: Read, 5: Report, 6: Write}
+@dataclass
+class Frame:
+    sizes: frames.Sizes
+    samples: Greys
+    patch: Greys
+    positions: int               # length of the list buffer
+
+    def encode(self):
+        return (put("B5Q", 7, *self.sizes) + self.samples.encode() + self.patch.encode()
+                + put("I", self.positions))
+
+    @classmethod
+    def decode(cls, reader):
+        return cls(frames.Sizes(*reader.take("5Q")), reader.greys(), reader.greys(), reader.one("I"))
+
+    def expected(self):
+        samples, patch, positions = self.samples.whole(), self.patch.whole(), [GUARD32] * self.positions
+
+        def call():
+            tried, found = frames.search(samples, patch, self.sizes, positions)
+            confirm_frame(samples, patch, self.sizes, positions[:found])
+            return tried, found
+
+        first = head("frame", call, lambda answer: "0 %d %d" % answer)
+        return first + show("positions", positions, GUARD32)
+
+
+KINDS = {1: Prepare, 2: Search, 3: Agree, 4: Read, 5: Report, 6: Write, 7: Frame}
 END = b"\0"
 
 

@@ -6,8 +6,11 @@ from itertools import islice
 
 from same_order import brute, generate, rules, stream
 from same_order.facts import LOST, NONE, UNUSED
+from same_order.frames import Sizes
+from same_order.stream import Greys
 
-KIND_BYTES = {"prepare": 1, "search": 2, "agree": 3, "read": 4, "report": 5, "write": 6}
+KIND_BYTES = {"prepare": 1, "search": 2, "agree": 3, "read": 4, "report": 5, "write": 6,
+              "frame": 7}
 
 
 class Bytes(unittest.TestCase):
@@ -15,14 +18,18 @@ class Bytes(unittest.TestCase):
         cases = [stream.Prepare([1, -2], [1, 2, 3, 4]),
                  stream.Search([300], [1, 1, 1, 1], [7] * 6, 6, 9, [(4, 2, 513)]),
                  stream.Agree(2, [NONE], [], 1, 258),
-                 stream.Read(b"ab", 3), stream.Report(b"", 5), stream.Write(b"xyz", 2, 513, [-1])]
+                 stream.Read(b"ab", 3), stream.Report(b"", 5), stream.Write(b"xyz", 2, 513, [-1]),
+                 stream.Frame(Sizes(2, 3, 258, 1, (1 << 64) - 1), Greys([7, 256], 5), Greys([], 0), 9)]
         data = b"".join((
             b"\1" b"\2\0\0\0\1\1\xfe" b"\1\0\2\0\3\0\4\0",
             b"\2" b"\1\0\0\0\4\x2c\1\0\0" b"\1" b"\1\0\1\0\1\0\1\0" b"\1\4\2\0\1\2"
             b"\6\0\0\0\0\7\0\0\0" b"\6\0\0\0\x09\0\0\0",
             b"\3" b"\2\0\0\0" b"\1\0\xff\xff" b"\0\0" b"\1\0\0\0" b"\2\1\0\0",
             b"\4" b"\2\0\0\0ab" b"\3\0\0\0", b"\5" b"\0\0\0\0" b"\5\0\0\0",
-            b"\6" b"\3\0\0\0xyz" b"\2\0\0\0" b"\1\2\0\0\0\0\0\0" b"\1\0\0\0\1\xff", b"\0"))
+            b"\6" b"\3\0\0\0xyz" b"\2\0\0\0" b"\1\2\0\0\0\0\0\0" b"\1\0\0\0\1\xff",
+            b"\7" b"\2\0\0\0\0\0\0\0" b"\3\0\0\0\0\0\0\0" b"\2\1\0\0\0\0\0\0" b"\1\0\0\0\0\0\0\0"
+            b"\xff\xff\xff\xff\xff\xff\xff\xff" b"\5\0\0\0\2\0\0\0\2\7\0\0\1" b"\0\0\0\0\0\0\0\0\1"
+            b"\x09\0\0\0", b"\0"))
         self.assertEqual(b"".join(case.encode() for case in cases) + stream.END, data)
         self.assertEqual(stream.decode(data), cases)
 
@@ -50,6 +57,13 @@ class Bytes(unittest.TestCase):
             self.assertLessEqual(len(case.data) + case.spare, 262200)
             self.assertLessEqual(len(case.samples), 65537)
             self.assertLess(case.used, 1 << 64)
+        if isinstance(case, stream.Frame):
+            self.assertLessEqual(case.samples.count, 1310720)
+            self.assertLessEqual(case.patch.count, 2100)
+            self.assertLessEqual(case.positions, 1048600)
+            for greys in (case.samples, case.patch):
+                self.assertEqual(bool(greys.given), greys.count > 0)
+                self.assertLessEqual(len(greys.given), greys.count)
 
 
 class Lines(unittest.TestCase):
@@ -84,7 +98,15 @@ class Lines(unittest.TestCase):
                 (stream.Write(b"", 12, 0, []),
                  "write 0 0 12\nbytes 00000000000000004b524543\nread 0 0 0 0\nsamples g3\nread 8 0\nsamples\n"),
                 (stream.Write(b"y", 3, 4, []), "write 20 0\nbytes 79aaaaaa\n"),
-                (stream.Write(b"y", 3, 5, []), "write 18 0\nbytes 79aaaaaa\n")):
+                (stream.Write(b"y", 3, 5, []), "write 18 0\nbytes 79aaaaaa\n"),
+                (stream.Frame(Sizes(2, 3, 5, 1, 2), Greys([1, 2, 1, 9, 9, 5, 6, 7], 8), Greys([1, 2], 2), 6),
+                 "frame 0 0 4 3\npositions 0 3 4 u1 g2\n"),
+                (stream.Frame(Sizes(2, 3, 5, 1, 2), Greys([1, 2], 8), Greys([1, 2], 2), 4),
+                 "frame 0 0 4 2\npositions 0 4 u2\n"),
+                (stream.Frame(Sizes(1, 1, 1, 2, 2), Greys([5], 1), Greys([5], 4), 1),
+                 "frame 0 0 0 0\npositions g1\n"),
+                (stream.Frame(Sizes(2, 3, 5, 1, 2), Greys([1, 2], 7), Greys([1, 2], 2), 4),
+                 "frame 25 0\npositions g4\n")):
             self.assertEqual(case.expected(), lines)
 
     def test_disagreement_with_brute_force_is_an_error(self):
@@ -93,6 +115,13 @@ class Lines(unittest.TestCase):
                 stream.confirm([1, 2], [3, 4, 4] * long, [0, 1])
             with self.assertRaises(AssertionError):
                 stream.confirm([1, 2], [LOST, 4, 3] * long, list(range(0, 3 * long, 3)))
+        for height, width in ((3, 6), (30, 60), (180, 300)):       # by pairs, by ranks, by some ranks
+            sizes, rows = Sizes(height, width, width, 1, 2), [1, 2, 3, 4, 5, 6] * (height * width // 6)
+            right = [x for x in range(height * width) if x % 6 != 5]
+            stream.confirm_frame(rows, [1, 2], sizes, right)
+            for wrong in (right[::2], [*right, 5]):
+                with self.assertRaises(AssertionError):
+                    stream.confirm_frame(rows, [1, 2], sizes, wrong)
 
 
 class Spread(unittest.TestCase):
@@ -174,7 +203,8 @@ class Spread(unittest.TestCase):
             self.assertEqual(brute.positions_by_rank(case.pattern, case.trace), arriving)
 
     def test_same_seed_same_cases(self):
-        first, again, other = (list(generate.cases("all", 400, s)) for s in (1, 1, 2))
+        corners = sum(len(list(corners())) for corners in generate.CORNERS.values())
+        first, again, other = (list(generate.cases("all", corners + 200, s)) for s in (1, 1, 2))
         self.assertEqual(first, again)
         self.assertNotEqual(first, other)
         self.assertEqual({type(case) for case in first}, set(stream.KINDS.values()))

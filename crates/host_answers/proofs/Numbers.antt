@@ -7,24 +7,29 @@ use native.Mathlib.Omega.{arith}
 use Rattle.order.specs.declared.refusal.Table.{Table}
 use Rattle.order.specs.declared.refusal.Table.the-variants.{Low, High, WitnessI, WitnessJ}
 use Rattle.order.specs.declared.refusal.Fault.{Fault}
-use Rattle.order.specs.declared.refusal.Fault.the-variants.{LongLead, ManySamples, ShortBuffer}
+use Rattle.order.specs.declared.refusal.Fault.the-variants.{LongLead, ManySamples, ShortBuffer, ZeroSize, LargeSize, NarrowPitch, ShortFrame, ShortPlaces}
 use Rattle.order.specs.declared.refusal.Refusal.{Refusal}
 use Rattle.order.specs.declared.refusal.Refusal.the-variants.{EmptyPattern, LongPattern, ShortTable, LongTrace, ShortSurvivors, ShortPositions, ShortRecording, WrongMark, WrongDistance, LongDistance, ShortSamples, LongInput, ForeignEntry, LostStitch, Unplaced}
 use Rattle.order.specs.Refusals.{Verdict, accepted, refused, foreignNumber, faultNumber, numberOf, placeOf}
 use Rattle.host_answers.specs.Results.{refusalResult, resultOf}
 
-table-range : (t : Table) → (1 ≤ foreignNumber t) × (foreignNumber t ≤ 21)
+table-range : (t : Table) → (1 ≤ foreignNumber t) × (foreignNumber t ≤ 26)
 table-range Low = (omega arith, omega arith)
 table-range High = (omega arith, omega arith)
 table-range WitnessI = (omega arith, omega arith)
 table-range WitnessJ = (omega arith, omega arith)
 
-fault-range : (f : Fault) → (1 ≤ faultNumber f) × (faultNumber f ≤ 21)
+fault-range : (f : Fault) → (1 ≤ faultNumber f) × (faultNumber f ≤ 26)
 fault-range LongLead = (omega arith, omega arith)
 fault-range ManySamples = (omega arith, omega arith)
 fault-range ShortBuffer = (omega arith, omega arith)
+fault-range ZeroSize = (omega arith, omega arith)
+fault-range LargeSize = (omega arith, omega arith)
+fault-range NarrowPitch = (omega arith, omega arith)
+fault-range ShortFrame = (omega arith, omega arith)
+fault-range ShortPlaces = (omega arith, omega arith)
 
-pub number-range : (r : Refusal) → (1 ≤ numberOf r) × (numberOf r ≤ 21)
+pub number-range : (r : Refusal) → (1 ≤ numberOf r) × (numberOf r ≤ 26)
 number-range EmptyPattern = (omega arith, omega arith)
 number-range (LongPattern m) = (omega arith, omega arith)
 number-range (ShortTable t) = (omega arith, omega arith)

@@ -1,4 +1,4 @@
--- "The C entry points": the one number that tells a verdict, and the counts as a list.
+-- "The C entry points": the one number that tells a verdict, a number that the host lends, and the counts as a list.
 use Prim.Native.Nat.{ℕ, _+_, _*_, min}
 use mathlib.Core.List.{List, [], _∷_}
 use Rattle.order.specs.declared.refusal.Refusal.{Refusal}
@@ -13,6 +13,11 @@ refusalResult r = numberOf r * 4294967296 + min (placeOf r) 4294967295
 abbrev pub resultOf : Verdict → ℕ
 resultOf accepted = 0
 resultOf (refused r) = refusalResult r
+
+-- what a lent number is after a call: a refused one leaves it as it was
+abbrev pub numberAfter : Verdict → ℕ → ℕ → ℕ
+numberAfter accepted n before = n
+numberAfter (refused r) n before = before
 
 -- N, D, S, W, R and the number struck
 abbrev pub countsList : Counts → List ℕ

@@ -6,16 +6,11 @@ use mathlib.Core.List.{List}
 use lib.IntN.{ℤ}
 use lib.ListN.{length, take}
 use Rattle.order.specs.Recordings.{sampleCount, firstSample, samplesOf}
-use Rattle.order.specs.Refusals.{Verdict, accepted, refused, readVerdict, writeVerdict}
+use Rattle.order.specs.Refusals.{readVerdict, writeVerdict}
 use Rattle.order.specs.Written.{afterVerdict}
 use Rattle.recording.specs.Recorded.{newLength, afterWriting}
 use Rattle.recording.specs.Promises.{PointsBack, ReadsBack}
-use Rattle.host_answers.specs.Results.{resultOf}
-
--- what a lent number is after a call: a refused one leaves it as it was
-abbrev pub numberAfter : Verdict → ℕ → ℕ → ℕ
-numberAfter accepted n before = n
-numberAfter (refused r) n before = before
+use Rattle.host_answers.specs.Results.{resultOf, numberAfter}
 
 -- reading the bytes bs into a buffer that holds `samples`, with two lent numbers: the result r, and what these hold after it
 pub record HostRead (bs : List ℕ) (samples : List ℤ) (count first r : ℕ) (samples' : List ℤ) (count' first' : ℕ) : Type 0 where

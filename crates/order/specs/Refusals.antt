@@ -8,7 +8,7 @@ use lib.ListN.{length, getD}
 use Rattle.order.specs.declared.refusal.Table.{Table}
 use Rattle.order.specs.declared.refusal.Table.the-variants.{Low, High, WitnessI, WitnessJ}
 use Rattle.order.specs.declared.refusal.Fault.{Fault}
-use Rattle.order.specs.declared.refusal.Fault.the-variants.{LongLead, ManySamples, ShortBuffer}
+use Rattle.order.specs.declared.refusal.Fault.the-variants.{LongLead, ManySamples, ShortBuffer, ZeroSize, LargeSize, NarrowPitch, ShortFrame, ShortPlaces}
 use Rattle.order.specs.declared.refusal.Refusal.{Refusal}
 use Rattle.order.specs.declared.refusal.Refusal.the-variants.{EmptyPattern, LongPattern, ShortTable, LongTrace, ShortSurvivors, ShortPositions, ShortRecording, WrongMark, WrongDistance, LongDistance, ShortSamples, LongInput, ForeignEntry, LostStitch, Unplaced}
 use Rattle.order.specs.Sizes.{Spot, none, place, entry, lowest, patternLimit, traceLimit, recordingLimit, inputLimit, windowsOf}
@@ -35,6 +35,11 @@ abbrev pub faultNumber : Fault → ℕ
 faultNumber LongLead = 18
 faultNumber ManySamples = 19
 faultNumber ShortBuffer = 20
+faultNumber ZeroSize = 22
+faultNumber LargeSize = 23
+faultNumber NarrowPitch = 24
+faultNumber ShortFrame = 25
+faultNumber ShortPlaces = 26
 
 abbrev pub numberOf : Refusal → ℕ
 numberOf EmptyPattern = 1

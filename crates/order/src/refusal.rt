@@ -44,6 +44,11 @@ pub enum Fault {
     LongLead,
     ManySamples,
     ShortBuffer,
+    ZeroSize,
+    LargeSize,
+    NarrowPitch,
+    ShortFrame,
+    ShortPlaces,
 }
 
 impl Fault {
@@ -55,6 +60,11 @@ impl Fault {
             Fault::LongLead => 18,
             Fault::ManySamples => 19,
             Fault::ShortBuffer => 20,
+            Fault::ZeroSize => 22,
+            Fault::LargeSize => 23,
+            Fault::NarrowPitch => 24,
+            Fault::ShortFrame => 25,
+            Fault::ShortPlaces => 26,
         }
     }
 }

@@ -1,5 +1,6 @@
 -- The laws that the functions' proofs cite, in the order of the argument.
 pub mod SampleSteps
+pub mod LastNearest
 pub mod NearestByValue
 pub mod ClaimLaws
 pub mod Offsets

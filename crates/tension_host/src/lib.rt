@@ -1,11 +1,13 @@
-// The entry points for a C host: preparation and search on little-endian bytes, reading and writing of recordings, exported under C's
-// names.
+// The entry points for a C host: preparation and search on little-endian bytes, reading and writing of recordings, and the search of a
+// camera's frame, exported under C's names.
 //
-// Follows docs/RULES.md, "The C entry points". Each is one call of the crate `host_calls` or `host_recordings`, which says what it costs.
+// Follows docs/RULES.md, "The C entry points". Each is one call of the crate `host_calls`, `host_recordings` or `host_frames`, which says what
+// it costs.
 
 ghost use Rattle.words.specs.Bytes.{samplesIn};
 ghost use Rattle.host_calls.specs.HostPromises.{HostPrepare, HostSearch};
 ghost use Rattle.host_recordings.specs.Promises.{HostRead, HostWrite};
+ghost use Rattle.host_frames.specs.Promises.{HostFrame};
 
 // Prepares a pattern of 4-byte samples: its tables of 2-byte entries are written, or nothing is.
 #[no_mangle]
@@ -102,4 +104,35 @@ pub extern "C" fn tension_write(
     ensures { λ r. ⌜ HostWrite (now (buffer .entry)) k (now (samples .entry)) (now (length .entry)) r (now (buffer .exit)) (now (length .exit)) ⌝ }
 {
     host_recordings::write(buffer, k, samples, length)
+}
+
+// Seeks a patch of h rows and k columns, packed, in a frame whose rows start a pitch apart: the places that match are listed, and their number
+// and how many were found are stored, or nothing is.
+#[no_mangle]
+pub extern "C" fn tension_frame(
+    samples: &[u16],
+    height: usize,
+    width: usize,
+    pitch: usize,
+    patch: &[u16],
+    h: usize,
+    k: usize,
+    positions: &mut [u32],
+    places: &mut usize,
+    found: &mut usize,
+) -> u64
+    ensures { λ r. ⌜ HostFrame (now (samples .entry)) height width pitch (now (patch .entry)) h k (now (positions .entry)) (now (places .entry)) (now (found .entry)) r (now (positions .exit)) (now (places .exit)) (now (found .exit)) ⌝ }
+{
+    host_frames::search(
+        samples,
+        height,
+        width,
+        pitch,
+        patch,
+        h,
+        k,
+        positions,
+        places,
+        found,
+    )
 }

@@ -1,10 +1,12 @@
 -- What the functions that find a place's neighbours tell each other: first the neighbour's value, then the last place that has it.
-use Prim.Native.Nat.{ℕ, zero, suc, _+_, _<_}
+use Prim.Native.Nat.{ℕ, zero, suc, _+_, _≤_, _<_}
 use mathlib.Core.Path.{_≡_}
 use mathlib.Core.List.{List}
-use mathlib.Core.Bool.{Bool, true, cond}
+use mathlib.Core.Bool.{Bool, cond}
 use lib.IntN.{ℤ}
 use lib.Signed.{leZ}
+use mir.Syntax.{w32}
+use mir.Val.{SFits}
 use Rattle.order.specs.Sizes.{Spot, none, place, at, entry}
 use Rattle.tables.specs.Inside.Claims.{least, greatest, NoneWithin}
 
@@ -21,10 +23,9 @@ unfoldable pub nearestValue : (ℤ → ℤ → Bool) → ℤ → List ℤ → �
 nearestValue le edge P x zero = edge
 nearestValue le edge P x (suc n) = later le (nearestValue le edge P x n) (onSide le edge x (at P n))
 
--- the values nearest to place j's, which is a sample
+-- the values nearest to place j's; up to there all are samples
 pub record NearestValues (P : List ℤ) (j : ℕ) (below above : ℤ) : Type 0 where
-  pub not-less : leZ least (at P j) ≡ true
-  pub not-greater : leZ (at P j) greatest ≡ true
+  pub samples : (i : ℕ) → i ≤ j → SFits w32 (at P i)
   pub low-value : below ≡ nearestValue leZ least P (at P j) j
   pub high-value : above ≡ nearestValue (λ a b. leZ b a) greatest P (at P j) j
 

@@ -1,7 +1,7 @@
--- `nearest_values` meets its contract. The loop's invariant: the two values are the nearest of the samples passed. The measure is the
--- places left.
+-- `nearest_values` meets its contract. The loop's invariant: the two values are the nearest of the samples passed, each of which has 32
+-- bits. The measure is the places left.
 -- Assumes nothing.
-use Prim.Native.Nat.{_≤_, _-_}
+use Prim.Native.Nat.{ℕ, _≤_, _<_, _-_}
 use mathlib.Core.Path.{_≡_, _∙_, ap}
 use native.Mathlib.Nat.{le-antisymm}
 use native.Mathlib.Omega.{arith}
@@ -13,8 +13,8 @@ use denote.Ref.{now}
 use Rattle.order.specs.Sizes.{at}
 use Rattle.tables.specs.Inside.Claims.{least, greatest}
 use Rattle.tables.specs.Inside.NearValues.{nearestValue}
-use Rattle.tables.proofs.SampleSteps.{sample-least, sample-greatest}
 use Rattle.tables.proofs.NearestByValue.{value-none, value-more}
+use borrow.Author.Count.{below-more}
 use borrow.Author.Needs.{needs, sfits-of}
 use Rattle.tables.proofs.neighbours.nearest_values.Statement.{statement}
 use Rattle.tables.proofs.neighbours.nearest_values.Tie as tie
@@ -23,7 +23,8 @@ abbrev Inv-loop : tie.InvT-loop
 Inv-loop pattern j x below₀ above₀ i₀ below above i =
     (i ≤ j) ×
     (toZ w32 below ≡ nearestValue leZ least pattern (at pattern j) i) ×
-    (toZ w32 above ≡ nearestValue (λ a b. leZ b a) greatest pattern (at pattern j) i)
+    (toZ w32 above ≡ nearestValue (λ a b. leZ b a) greatest pattern (at pattern j) i) ×
+    ((k : ℕ) → k < i → SFits w32 (at pattern k))
 
 abbrev μ-loop : tie.MeasureT-loop
 μ-loop pattern j x below₀ above₀ i₀ below above i = j - i
@@ -35,7 +36,7 @@ shared-slice-copy-out-x : tie.Need-shared-slice-copy-out-x Inv-loop μ-loop
 shared-slice-copy-out-x c = search needs
 
 loop-holds : tie.Need-loop-holds Inv-loop μ-loop
-loop-holds c = (omega arith, value-none _ _ _ _, value-none _ _ _ _)
+loop-holds c = (omega arith, value-none _ _ _ _, value-none _ _ _ _, λ k h. absurd (omega arith))
 
 mul-y : tie.Need-mul-y Inv-loop μ-loop
 mul-y c = search needs
@@ -74,6 +75,7 @@ loop-again c =
       omega arith,
       value-more _ _ _ _ _ (l .loop .inv .1) (toZ-ofZ (sfits-of (one .pick .ok)) ∙ low) (toZ-ofZ (sfits-of (c .before .pick3 .ok)) ∙ c .before .pick3 .ensures),
       value-more _ _ _ _ _ (l .loop .inv .2) (toZ-ofZ (sfits-of (two .pick2 .ok)) ∙ high) (toZ-ofZ (sfits-of (c .pick4 .ok)) ∙ c .pick4 .ensures),
+      below-more _ _ (l .loop .inv .3) fy,
     )
 
 returns : tie.Need-returns Inv-loop μ-loop
@@ -82,8 +84,7 @@ returns c =
     let f : SFits w32 (at (now (l .before .before .args .pattern)) (l .before .before .args .j)) = sfits-of (l .before .x .given) in
     let end = le-antisymm (l .loop .inv .0) (c .loop-test .left) in
     record {
-      not-less = sample-least _ f;
-      not-greater = sample-greatest _ f;
+      samples = λ i h. below-more (λ k. SFits w32 (at (now (l .before .before .args .pattern)) k)) _ (rw end at (l .loop .inv .3)) f i (omega arith);
       low-value = l .loop .inv .1 ∙ ap (nearestValue _ _ _ _) end;
       high-value = l .loop .inv .2 ∙ ap (nearestValue _ _ _ _) end;
     }

@@ -1,0 +1,2 @@
+-- What both walks use of numbers.
+pub mod Numbers
