@@ -7,7 +7,7 @@ use mathlib.Core.Logic.{⊎-elim, _↔_}
 use mathlib.Core.List.{List, [], _∷_, _++_, map, List·Memᴰ, List·Memᴰ·head, List·Memᴰ·tail, List·Memᴰ·not-nil, List·Memᴰ·append-cases, Memᴰ·append-left, Memᴰ·append-right, Memᴰ·map, Memᴰ·of-map}
 use mathlib.Core.Bool.{Bool, true}
 use native.Mathlib.Omega.{arith}
-use native.Mathlib.Nat.{mul-add-div-right, mul-add-mod-self-right, mod-eq-of-lt, div-eq-of-lt, eq-or-lt-of-le, le-of-suc-le-suc}
+use native.Mathlib.Nat.{eq-or-lt-of-le, le-of-suc-le-suc}
 use lib.ListN.{length, take, drop, replicate}
 use lib.Seq.{take-at, length-take-le}
 use Rattle.order.specs.declared.refusal.Refusal.{Refusal}
@@ -26,6 +26,7 @@ use Rattle.frames.specs.declared.answers.Sighted.{Sighted}
 use Rattle.frames.specs.declared.answers.Sighted.the-variants.{Done, Refused}
 use Rattle.frames.specs.Frames.{under, matchesAt, rowListed, rowsListed, placesListed}
 use Rattle.frames.specs.FramePromise.{sightedBy, buffersVerdict, FramePromise}
+use Rattle.frames.proofs.RowNumbers.{row-of, column-of}
 use Rattle.frames.proofs.ListingLaws.{row-room}
 use Rattle.frames.specs.Inside.{RowsListed, PlacesWritten, PatchInside}
 
@@ -66,13 +67,6 @@ place-listed t width columns (suc rows) row column h g e =
     (Memᴰ·append-right (rowsListed t width columns rows) (Memᴰ·map (λ column. rows * width + column) (those-mem (t rows) columns column g (rw (← q) e)))))
     (λ (q : row < rows). Memᴰ·append-left _ (place-listed t width columns rows row column q g e))
     (eq-or-lt-of-le (le-of-suc-le-suc h))
-
--- a row and a column below the width are told by their number
-row-of : (width row column : ℕ) → column < width → (row * width + column) / width ≡ row
-row-of width row column h = mul-add-div-right (let z : 0 < width = omega arith in z) row column ∙ ap (λ n. row + n) (div-eq-of-lt h) ∙ (let z : row + 0 ≡ row = omega arith in z)
-
-column-of : (width row column : ℕ) → column < width → (row * width + column) % width ≡ column
-column-of width row column h = mul-add-mod-self-right row width column ∙ mod-eq-of-lt h
 
 -- exactly the places that pass
 pub exactly : (t : ℕ → ℕ → Bool) (width columns rows row column : ℕ) → columns ≤ width → column < width

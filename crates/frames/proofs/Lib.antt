@@ -1,4 +1,5 @@
 -- The laws that the functions' proofs cite, in the order of the argument, and what callers need.
+pub mod RowNumbers
 pub mod StepLaws
 pub mod MaskLaws
 pub mod ListingLaws

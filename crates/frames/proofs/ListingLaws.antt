@@ -4,16 +4,17 @@
 use Prim.Native.Nat.{ℕ, zero, suc, _+_, _-_, _*_, _≤_, _<_}
 use mathlib.Core.Path.{_≡_, refl, sym, _∙_, ap, ap₂, subst}
 use mathlib.Core.Logic.{⊎-elim, _⊎_}
-use mathlib.Core.List.{List, [], _∷_, _++_, map, append-assoc, append-nil}
+use mathlib.Core.List.{List, [], _∷_, _++_, map, append-assoc, append-nil, map-append}
 use mathlib.Core.Bool.{Bool, true, false, cond}
 use native.Mathlib.Omega.{arith}
 use native.Mathlib.Numerals.{add-one}
-use native.Mathlib.Nat.{add-mul, mul-le-mul, mul-le-mul-right}
+use native.Mathlib.Nat.{mul-le-mul, mul-le-mul-right}
 use lib.ListN.{length, take, set, length-take}
 use lib.Seq.{take-set-le, take-suc-set, drop-set-lt}
 use mir.Val.{boolByte}
 use Rattle.order.specs.Sizes.{those}
 use Rattle.order.proofs.Lists.{those-suc}
+use Rattle.frames.proofs.RowNumbers.{next-row}
 use Rattle.frames.specs.Frames.{rowListed, rowsListed}
 use Rattle.frames.specs.Inside.{allPass, Listed, RowsListed}
 
@@ -21,10 +22,6 @@ use Rattle.frames.specs.Inside.{allPass, Listed, RowsListed}
 
 abbrev shift : ℕ → List ℕ → List ℕ
 shift base l = map (λ i. base + i) l
-
-map-append : (f : ℕ → ℕ) (l r : List ℕ) → map f (l ++ r) ≡ map f l ++ map f r
-map-append f [] r = refl
-map-append f (x ∷ l) r = ap (λ t. f x ∷ t) (map-append f l r)
 
 shift-shift : (a b : ℕ) (l : List ℕ) → shift (a + b) l ≡ shift a (shift b l)
 shift-shift a b [] = refl
@@ -145,14 +142,11 @@ rows-suc : (t : ℕ → ℕ → Bool) (width columns row : ℕ) → rowsListed t
 unfolding rowsListed
 rows-suc t width columns row = rw add-one refl
 
-one-row-more : (row columns : ℕ) → (row + 1) * columns ≡ row * columns + columns
-one-row-more row columns = add-mul row 1 columns ∙ ap (λ n. row * columns + n) (let e : 1 * columns ≡ columns = omega arith in e)
-
 pub rows-more : {t : ℕ → ℕ → Bool} {width columns row k r : ℕ} {before now after : List ℕ} → RowsListed t width columns row before k now
     → Listed (t row) (row * width) columns k now r after → RowsListed t width columns (row + 1) before r after
 unfolding rowListed
 rows-more {t} {width} {columns} {row} {k} {r} {before} {now} {after} v w =
-    let e = one-row-more row columns in
+    let e = next-row row columns in
     record {
       are = w .grown ∙ ap (λ l. l ++ shift (row * width) (those (t row) columns)) (v .are) ∙ sym (rows-suc t width columns row);
       at-most = let p = v .at-most in let q = w .at-most in omega arith;
@@ -176,7 +170,7 @@ rows-all {t} {width} {columns} {r = r} {before} {after} w e = subst (λ (n : ℕ
 
 -- room for one row more, and numbers that fit
 pub row-room : (row rows columns : ℕ) → row < rows → row * columns + columns ≤ rows * columns
-row-room row rows columns h = let a = mul-le-mul-right columns (let z : row + 1 ≤ rows = omega arith in z) in let b = one-row-more row columns in omega arith
+row-room row rows columns h = let a = mul-le-mul-right columns (let z : row + 1 ≤ rows = omega arith in z) in let b = next-row row columns in omega arith
 
 pub base-fits : (row width columns : ℕ) → row ≤ 1024 → width ≤ 1024 → columns ≤ width → row * width + columns ≤ 1049600
 base-fits row width columns a b c = let m = mul-le-mul a b in omega arith

@@ -7,7 +7,7 @@ use mathlib.Core.Logic.{⊎-elim}
 use mathlib.Core.List.{List}
 use mathlib.Core.Bool.{Bool, true, false}
 use native.Mathlib.Omega.{arith}
-use native.Mathlib.Nat.{add-mul, mul-le-mul-right, div-lt-iff-lt-mul, mul-add-div-right, mul-add-mod-self-right, mod-lt, mod-eq-of-lt, div-eq-of-lt, div-add-mod', eq-or-lt-of-le, lt-of-mul-lt-mul-right}
+use native.Mathlib.Nat.{add-mul, mul-le-mul-right, div-lt-iff-lt-mul, mod-lt, div-add-mod', eq-or-lt-of-le, lt-of-mul-lt-mul-right}
 use lib.Dec.{ltb, eqb}
 use lib.IntN.{pos}
 use lib.ListN.{length, getD, take, drop}
@@ -18,6 +18,7 @@ use Rattle.order.specs.Written.{over}
 use Rattle.order.proofs.Lists.{length-each, getD-each, each-same}
 use Rattle.frames.specs.Frames.{levelAt, under}
 use Rattle.frames.specs.Inside.{nowhere, offsetOf, offsetsOf, nearOf, nearOffsets, allPass, passByTables, Turned, LastFits, StepWithin, Within, RowsListed, Grid, OffsetsInside, PatchInside}
+use Rattle.frames.proofs.RowNumbers.{next-row, row-of, column-of}
 use Rattle.frames.proofs.StepLaws.{seen, Apart, near-there, near-none, near-self}
 use Rattle.frames.proofs.ListingLaws.{rows-same}
 
@@ -32,9 +33,6 @@ pub record Corner (pitch k j start column : ℕ) : Type 0 where
 
 pub first-corner : (pitch k : ℕ) → Corner pitch k 0 0 0
 first-corner pitch k = record { row = 0; start-is = omega arith; place-is = omega arith; within = omega arith }
-
-next-row : (row n : ℕ) → (row + 1) * n ≡ row * n + n
-next-row row n = add-mul row 1 n ∙ ap (λ a. row * n + a) (let e : 1 * n ≡ n = omega arith in e)
 
 -- a turn behind the last column is to a row that is there, so that its start is a number of the machine's
 pub turn-fits : {pitch k m j start column : ℕ} → LastFits pitch k m → Corner pitch k j start column → j < m → column ≡ k → start + pitch < 18446744073709551616
@@ -79,9 +77,8 @@ pub offset-there : {pitch k j start column : ℕ} → CornerIn pitch k j start c
 unfolding offsetOf
 offset-there {pitch} {k} {j} {start} {column} c =
     let i : column < k = c .inside in
-    let some : 0 < k = omega arith in
-    let d : j / k ≡ c .row = ap (λ n. n / k) (c .place-is) ∙ mul-add-div-right some (c .row) column ∙ ap (λ n. c .row + n) (div-eq-of-lt i) ∙ (let z : c .row + 0 ≡ c .row = omega arith in z) in
-    let r : j % k ≡ column = ap (λ n. n % k) (c .place-is) ∙ mul-add-mod-self-right (c .row) k column ∙ mod-eq-of-lt i in
+    let d : j / k ≡ c .row = ap (λ n. n / k) (c .place-is) ∙ row-of k (c .row) column i in
+    let r : j % k ≡ column = ap (λ n. n % k) (c .place-is) ∙ column-of k (c .row) column i in
     ap (λ n. n + column) (c .start-is) ∙ sym (ap₂ (λ a b. a * pitch + b) d r)
 
 pub next-corner : {pitch k j start column : ℕ} → CornerIn pitch k j start column → Corner pitch k (j + 1) start (column + 1)
@@ -159,18 +156,12 @@ module _ {F : List ℕ} {pitch width h k rows columns room : ℕ} (i : PatchInsi
       one-place a b e =
           let p : a % k < pitch = narrow-column a in
           let q : b % k < pitch = narrow-column b in
-          let row : a / k ≡ b / k = sym (row-told a p) ∙ ap (λ m. m / pitch) e ∙ row-told b q in
-          let column : a % k ≡ b % k = sym (column-told a p) ∙ ap (λ m. m % pitch) e ∙ column-told b q in
+          let row : a / k ≡ b / k = sym (row-of pitch (a / k) (a % k) p) ∙ ap (λ m. m / pitch) e ∙ row-of pitch (b / k) (b % k) q in
+          let column : a % k ≡ b % k = sym (column-of pitch (a / k) (a % k) p) ∙ ap (λ m. m % pitch) e ∙ column-of pitch (b / k) (b % k) q in
           sym (div-add-mod' a k) ∙ ap₂ (λ x y. x * k + y) row column ∙ div-add-mod' b k
         where
           narrow-column : (a : ℕ) → a % k < pitch
           narrow-column a = let m = mod-lt a (i .one-column) in let w = i .wide-pitch in let e = i .across in let g = i .some-columns in omega arith
-
-          row-told : (a : ℕ) → a % k < pitch → (a / k * pitch + a % k) / pitch ≡ a / k
-          row-told a p = mul-add-div-right (let z : 0 < pitch = omega arith in z) (a / k) (a % k) ∙ ap (λ m. a / k + m) (div-eq-of-lt p) ∙ (let z : a / k + 0 ≡ a / k = omega arith in z)
-
-          column-told : (a : ℕ) → a % k < pitch → (a / k * pitch + a % k) % pitch ≡ a % k
-          column-told a p = mul-add-mod-self-right (a / k) pitch (a % k) ∙ mod-eq-of-lt p
 
   pub offsets-inside : {low high : List ℕ} → length F < 18446744073709551616 → h * k ≤ length low → h * k ≤ length high → OffsetsInside F (offsetsOf pitch k (h * k)) low high pitch width rows columns room
   unfolding offsetsOf

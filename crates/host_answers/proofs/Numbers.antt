@@ -55,3 +55,7 @@ pub only-accepted : (v : Verdict) → resultOf v ≡ 0 → v ≡ accepted
 unfolding refusalResult
 only-accepted accepted e = refl
 only-accepted (refused r) e = absurd (omega (arith, number-range r .0))
+
+-- a refusal's result is not 0
+pub told-apart : (v : Verdict) (why : Refusal) → v ≡ refused why → resultOf v ≡ 0 → ⊥
+told-apart v why e z = let a = only-accepted v z in let b : _≡_ {A = ℕ} 0 1 = cc in omega arith

@@ -12,8 +12,8 @@ use Rattle.frames.specs.declared.answers.Sighted.{Sighted}
 use Rattle.frames.specs.declared.answers.Sighted.the-variants.{Done, Refused}
 use Rattle.frames.specs.Frames.{placesListed}
 use Rattle.frames.specs.FramePromise.{sightedBy, buffersVerdict, FramePromise}
-use Rattle.host_answers.specs.Results.{refusalResult, resultOf}
-use Rattle.host_answers.proofs.Numbers.{only-accepted}
+use Rattle.host_answers.specs.Results.{refusalResult}
+use Rattle.host_answers.proofs.Numbers.{told-apart}
 use Rattle.host_frames.specs.Promises.{HostFrame}
 
 -- which verdict an answer comes from
@@ -24,10 +24,6 @@ done-from (refused r) a b e = let z : _≡_ {A = ℕ} 0 1 = cc in absurd (omega 
 refused-from : (v : Verdict) (a b : ℕ) (why : Refusal) → Refused why ≡ sightedBy v a b → v ≡ refused why
 refused-from accepted a b why e = let z : _≡_ {A = ℕ} 0 1 = cc in absurd (omega arith)
 refused-from (refused r) a b why e = cc
-
--- a refusal's result is not 0
-told-apart : (v : Verdict) (why : Refusal) → v ≡ refused why → resultOf v ≡ 0 → ⊥
-told-apart v why e z = let a = only-accepted v z in let b : _≡_ {A = ℕ} 0 1 = cc in omega arith
 
 module _ (F : List ℕ) (height width pitch : ℕ) (Q : List ℕ) (h k : ℕ) (before : List ℕ) (places found : ℕ) where
   abbrev verdict : Verdict

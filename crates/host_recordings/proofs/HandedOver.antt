@@ -3,12 +3,11 @@
 use Prim.Native.Nat.{ℕ}
 use mathlib.Core.Path.{_≡_, refl, sym, _∙_}
 use mathlib.Core.List.{List}
-use native.Mathlib.Omega.{arith}
 use lib.IntN.{ℤ}
 use lib.ListN.{length}
 use Rattle.order.specs.Recordings.{sampleCount, firstSample}
 use Rattle.order.specs.declared.refusal.Refusal.{Refusal}
-use Rattle.order.specs.Refusals.{Verdict, refused, readVerdict, writeVerdict}
+use Rattle.order.specs.Refusals.{readVerdict, writeVerdict}
 use Rattle.recording.specs.declared.reading.Reading.{Reading}
 use Rattle.recording.specs.declared.reading.Reading.the-variants.{Done, Refused}
 use Rattle.recording.specs.declared.writing.Writing.{Writing}
@@ -17,13 +16,9 @@ use Rattle.recording.specs.Recorded.{newLength}
 use Rattle.recording.specs.Promises.{ReadPromise, WritePromise}
 use Rattle.recording.proofs.Readings.{done-from, unread-from}
 use Rattle.recording.proofs.Writings.{written-from, unwritten-from}
-use Rattle.host_answers.specs.Results.{refusalResult, resultOf}
-use Rattle.host_answers.proofs.Numbers.{only-accepted}
+use Rattle.host_answers.specs.Results.{refusalResult}
+use Rattle.host_answers.proofs.Numbers.{told-apart}
 use Rattle.host_recordings.specs.Promises.{HostRead, HostWrite}
-
--- a refusal's result is not 0
-told-apart : (v : Verdict) (why : Refusal) → v ≡ refused why → resultOf v ≡ 0 → ⊥
-told-apart v why e z = let a = only-accepted v z in let b : _≡_ {A = ℕ} 0 1 = cc in omega arith
 
 module _ (bs : List ℕ) (samples : List ℤ) (count first : ℕ) where
   pub read-refused : {answer : Reading} {why : Refusal} {code : ℕ} {samples' : List ℤ} → answer ≡ Refused why → ReadPromise bs samples answer samples' → code ≡ refusalResult why
