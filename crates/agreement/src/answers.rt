@@ -3,7 +3,7 @@
 use order::Refusal;
 
 // What the call on two windows answers.
-#[derive(Drop)]
+#[derive(Clone, Copy)]
 pub enum Agreement {
     Agree,
     Differ,

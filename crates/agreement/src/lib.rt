@@ -2,6 +2,8 @@
 //
 // Follows docs/RULES.md, "Agree" and "Refusals", numbers 1 to 3. Sizes are looked at first; then one entry at most is read, as it stands.
 
+#![tactic(auto)]
+
 mod answers;
 mod windows;
 

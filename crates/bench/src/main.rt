@@ -5,6 +5,8 @@
 // is seen to be too long; short reads are gone on with, and a read that fails counts as the end. Every byte of the text is proved in
 // the crate `report`; what the C library reads and writes is assumed. Takes what a report takes, and 40 KB of stack.
 
+#![tactic(auto)]
+
 use libc::{STDIN_FILENO, STDOUT_FILENO};
 use order::INPUT_LIMIT;
 use report::{Reported, TEXT_ROOM, report};

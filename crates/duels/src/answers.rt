@@ -4,7 +4,7 @@
 use order::Refusal;
 
 // How many windows are kept, how many duels were fought, and how many windows were struck before them.
-#[derive(Drop)]
+#[derive(Clone, Copy)]
 pub struct Duelled {
     pub kept: usize,
     pub fought: u32,
@@ -12,7 +12,7 @@ pub struct Duelled {
 }
 
 // What was fought, or why nothing was.
-#[derive(Drop)]
+#[derive(Clone, Copy)]
 pub enum Duels {
     Done(Duelled),
     Refused(Refusal),

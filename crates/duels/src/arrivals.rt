@@ -19,7 +19,7 @@ use order::{LOST, Meeting, NONE, Offset, Place, Window};
 use words::{wide16, wide32};
 
 // What the windows so far have left: how many have arrived, how many of them are kept, and how many fell together with another.
-#[derive(Drop)]
+#[derive(Clone, Copy)]
 pub(crate) struct Arrived {
     pub windows: usize,
     pub kept: usize,
@@ -27,7 +27,7 @@ pub(crate) struct Arrived {
 }
 
 // Whether an arriving window ends on the stack.
-#[derive(Drop)]
+#[derive(Clone, Copy)]
 enum Arrival {
     Pushed,
     Dropped,

@@ -41,7 +41,7 @@ fn own_code(pattern: &[i32], a: Offset, i: Place, j: Place) -> u8
 }
 
 // How the places of the older and of the newer window compare at a witness, and whether the entries tell one, or none.
-#[derive(Drop)]
+#[derive(Clone, Copy)]
 pub(crate) struct Codes {
     pub clear: bool,
     pub older: u8,

@@ -6,6 +6,8 @@
 // callers: with a pattern's own tables these are the rules' duels, and tables with an entry that names a place and tells no witness are
 // refused.
 
+#![tactic(auto)]
+
 mod answers;
 mod arrivals;
 mod codes;

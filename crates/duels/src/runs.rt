@@ -25,7 +25,7 @@ fn lost_from(trace: &[i32], lost: bool, from: usize) -> usize
 }
 
 // Where a run of windows ends, and the first window behind the lost stitch that ends it.
-#[derive(Drop)]
+#[derive(Clone, Copy)]
 struct Run {
     past: usize,
     next: usize,

@@ -2,6 +2,8 @@
 // print, the file stdout, is written by hand from docs/RULES.md, "Examples"; the counts at the limits (k), which that page doesn't
 // give, are the reference program's. Takes what the calls take, one after the other.
 
+#![tactic(auto)]
+
 use libc::STDOUT_FILENO;
 use order::{Counts, LOST, Refusal};
 use recording::{Reading, Writing};

@@ -5,6 +5,8 @@
 // division. Sizes may be any numbers: none of a caller's is multiplied or added before it is known to be small enough, and the pitch,
 // which has no limit, never is. Assumes nothing of its callers.
 
+#![tactic(auto)]
+
 ghost use Rattle.std.specs.Prelude.{◌≡◌, ◌||◌, ◌*◌, ◌≤◌, ◌<◌, ltb, eqb};
 ghost use Rattle.order.specs.Sizes.{windows_of};
 ghost use Rattle.frame_sizes.specs.FrameSizes.{frame_limit, patch_limit, samples_needed};
@@ -19,7 +21,7 @@ pub const FRAME_LIMIT: usize = 1024;
 pub const PATCH_LIMIT: usize = 1024;
 
 // Where a patch is tried: at so many rows, and at each of them at so many columns, either of which may be 0; or why the call is refused.
-#[derive(Drop)]
+#[derive(Clone, Copy)]
 pub enum Tries {
     At { rows: usize, columns: usize },
     Refused(Refusal),

@@ -6,13 +6,15 @@
 // and refuses those that don't fit. Functions over a struct that holds a reference are proved by hand, so there are two, and the work is
 // elsewhere.
 
+#![tactic(auto)]
+
 ghost use Rattle.std.specs.Prelude.{◌≡◌};
 ghost use Rattle.frames.specs.FramePromise.{FramePromise};
 
 use frames::{Sighted, search_frame};
 
 // A frame: the driver's own samples, and how many rows and columns of them there are and how far apart rows start.
-#[derive(Drop)]
+#[derive(Clone, Copy)]
 pub struct Frame<'a> {
     pub samples: &'a [u16],
     pub height: usize,

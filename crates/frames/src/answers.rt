@@ -4,7 +4,7 @@
 use order::Refusal;
 
 // The places tried and how many of them are listed, or why the call is refused.
-#[derive(Drop)]
+#[derive(Clone, Copy)]
 pub enum Sighted {
     Done { places: usize, found: usize },
     Refused(Refusal),

@@ -130,7 +130,7 @@ fn look_late(
 }
 
 // How far a block was looked at together.
-#[derive(Drop)]
+#[derive(Clone, Copy)]
 struct Glance {
     done: usize,
     standing: u8,

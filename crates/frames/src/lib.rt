@@ -4,6 +4,8 @@
 // positions as it was. A place of the patch is tested by its two neighbours, as in the sweep of a trace, and at many columns of a row at
 // once. Up to h × k tests a place, most of which are never made, and 29 KB of stack.
 
+#![tactic(auto)]
+
 mod answers;
 mod blocks;
 mod patches;

@@ -17,7 +17,7 @@ use levels::level_neighbours;
 use words::wide16;
 
 // Where a place of the patch lies: how far its row starts from the first, and its column.
-#[derive(Drop)]
+#[derive(Clone, Copy)]
 struct Corner {
     start: usize,
     column: usize,

@@ -3,6 +3,8 @@
 // Follows docs/RULES.md, "The C entry points", Result and Counts. A turn for each entry that is written; a refusal writes no byte. Assumes
 // nothing of its callers.
 
+#![tactic(auto)]
+
 mod answering;
 mod results;
 

@@ -4,6 +4,8 @@
 // `search` is called, and what it wrote becomes bytes again. The stack that each call takes is said in its file. The exported functions are
 // in the crate `tension_host`, one call each.
 
+#![tactic(auto)]
+
 mod preparing;
 mod reading;
 mod searching;

@@ -3,6 +3,8 @@
 // Follows docs/RULES.md, "Frames" and "The C entry points", Result and Frames. It is one call of the crate `frames`, on the host's own
 // arrays: nothing is converted and no array is kept. The exported function is in the crate `tension_host`.
 
+#![tactic(auto)]
+
 ghost use Rattle.host_frames.specs.Promises.{HostFrame};
 
 use frames::Sighted;

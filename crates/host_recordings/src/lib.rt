@@ -4,6 +4,8 @@
 // Follows docs/RULES.md, "Recordings" and "The C entry points", Result and Recordings. Each is one call of the crate `recording`, on the
 // host's own arrays: nothing is converted and no array is kept. The exported functions are in the crate `tension_host`.
 
+#![tactic(auto)]
+
 ghost use Rattle.host_recordings.specs.Promises.{HostRead, HostWrite};
 
 use host_answers::{ACCEPTED, result_of};

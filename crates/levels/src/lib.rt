@@ -5,6 +5,8 @@
 // takes twice as many at once. The two tables together take m² / 2 steps by eights for the values and at most m² by sixteens for the
 // places, and no working list. Sizes are looked at before the first store, so a refused call leaves both tables as they were.
 
+#![tactic(auto)]
+
 ghost use Rattle.std.specs.Prelude.{◌≡◌, true, cond, ◌<◌, ◌≤◌, pos, length};
 ghost use Rattle.order.specs.Sizes.{pattern_limit};
 ghost use Rattle.order.specs.Neighbours.{low_table, high_table};
@@ -30,14 +32,14 @@ const GREATEST: u16 = 65535;
 const STRIDE: usize = 16;
 
 // The values of a place's neighbours. Where there is none it is the limit on that side.
-#[derive(Drop)]
+#[derive(Clone, Copy)]
 struct Values {
     below: u16,
     above: u16,
 }
 
 // The entries of a place.
-#[derive(Drop)]
+#[derive(Clone, Copy)]
 struct Entries {
     low: u16,
     high: u16,

@@ -3,6 +3,8 @@
 // Follows docs/RULES.md, "Sweep" and "What is written". A store an entry. Assumes nothing of its callers: what lies past a buffer's end is
 // not written.
 
+#![tactic(auto)]
+
 mod growing;
 mod unused_entries;
 

@@ -5,15 +5,15 @@ ghost use Rattle.std.specs.Prelude.{◌≡◌};
 ghost use Rattle.order.specs.Agree.{distance};
 
 // Where a window starts in the trace.
-#[derive(Drop)]
+#[derive(Clone, Copy)]
 pub struct Window(pub usize);
 
 // How far apart two windows start.
-#[derive(Drop)]
+#[derive(Clone, Copy)]
 pub struct Offset(pub usize);
 
 // A place in the pattern, counted from 0.
-#[derive(Drop)]
+#[derive(Clone, Copy)]
 pub struct Place(pub usize);
 
 impl Offset {

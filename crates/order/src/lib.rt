@@ -3,6 +3,8 @@
 //
 // Follows docs/RULES.md, "Sizes", "Relation", "Test of a place" and "Refusals". Each function takes a handful of steps and assumes nothing.
 
+#![tactic(auto)]
+
 mod kinds;
 mod limits;
 mod place_test;

@@ -7,7 +7,7 @@ ghost use Rattle.order.specs.Refusals.{table_number, foreign_number_lem, fault_n
 use crate::limits::INPUT_LIMIT;
 
 // The four tables that preparation writes.
-#[derive(Drop)]
+#[derive(Clone, Copy)]
 pub enum Table {
     Low,
     High,
@@ -42,7 +42,7 @@ impl Table {
 }
 
 // What is wrong with a call where the number says it all: such a refusal's place is 0.
-#[derive(Drop)]
+#[derive(Clone, Copy)]
 pub enum Fault {
     LongLead,
     ManySamples,
@@ -73,7 +73,7 @@ impl Fault {
 }
 
 // Why a call was refused, with the number that its place tells.
-#[derive(Drop)]
+#[derive(Clone, Copy)]
 pub enum Refusal {
     EmptyPattern,
     LongPattern(usize),

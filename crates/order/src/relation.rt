@@ -4,7 +4,7 @@ ghost use Rattle.std.specs.Prelude.{◌≡◌};
 ghost use Rattle.order.specs.Relations.{rel};
 
 // What a comparison of two samples tells.
-#[derive(Drop)]
+#[derive(Clone, Copy)]
 pub enum Relation {
     Less,
     Equal,

@@ -4,14 +4,14 @@
 use crate::kinds::Place;
 
 // What the test of one place comes to: the comparisons it spent and, where it failed, the place of the neighbour that failed.
-#[derive(Drop)]
+#[derive(Clone, Copy)]
 pub enum Tested {
     Passed(u32),
     Failed(u32, Place),
 }
 
 // What becomes of the older and the newer of two windows when the newer looks at the older.
-#[derive(Drop)]
+#[derive(Clone, Copy)]
 pub enum Meeting {
     Agree,
     OlderFalls,
@@ -20,7 +20,7 @@ pub enum Meeting {
 }
 
 // What an accepted search counts.
-#[derive(Drop)]
+#[derive(Clone, Copy)]
 pub struct Counts {
     // N: the windows of the trace.
     pub windows: u32,

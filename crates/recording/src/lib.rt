@@ -3,6 +3,8 @@
 // Follows docs/RULES.md, "Recordings" and "Refusals", numbers 8 to 12 and 18 to 20. Reading and writing take a step a sample and no
 // memory of their own, and a call that is refused has stored nothing. Assumes nothing of its callers.
 
+#![tactic(auto)]
+
 mod reading;
 mod trailer;
 mod writing;

@@ -5,6 +5,8 @@
 // Buffers hold a guard value before each call. What a call must come to is docs/RULES.md's; a case takes what its call takes, the
 // clearing of its buffers, and a read or a write for each number. The buffers are as large as a case may ask for, 1 MB of stack.
 
+#![tactic(auto)]
+
 mod input;
 mod output;
 

@@ -67,7 +67,7 @@ const NOTHING: u8 = b'u';
 const PLAIN: u8 = b' ';
 
 // The entries with one mark up to the one that is looked at.
-#[derive(Drop)]
+#[derive(Clone, Copy)]
 struct Run {
     mark: u8,
     length: usize,

@@ -25,7 +25,7 @@ const PATTERN_ROOM: usize = 1024;
 const TRACE_ROOM: usize = 2048;
 
 // What a report answers, with the length of its text: written, or the lent buffer is shorter and nothing is written.
-#[derive(Drop)]
+#[derive(Clone, Copy)]
 pub enum Reported {
     Written(usize),
     Short(usize),

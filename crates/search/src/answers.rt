@@ -4,7 +4,7 @@
 use order::{Counts, Refusal};
 
 // What a search answers.
-#[derive(Drop)]
+#[derive(Clone, Copy)]
 pub enum Searched {
     Done(Counts),
     Refused(Refusal),

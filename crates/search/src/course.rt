@@ -10,7 +10,7 @@ ghost use Rattle.search.specs.Inside.Courses.{Chosen};
 use order::{NONE, Relation, compare};
 
 // Steady, with how each sample compares with the one before it, or mixed.
-#[derive(Drop)]
+#[derive(Clone, Copy)]
 pub(crate) enum Course {
     Steady(Relation),
     Mixed,

@@ -3,6 +3,8 @@
 // Follows docs/RULES.md, "Lost stitches", "Test of a place", "Duels", "Sweep" and "Refusals" (Jargalsaikhan 2022 for duels and sweep). A
 // call that is refused has stored nothing: the pattern and the sizes are looked at first, then the tables, then the work is done.
 
+#![tactic(auto)]
+
 mod answers;
 mod course;
 mod mixed;

@@ -9,7 +9,7 @@ ghost use Rattle.search.specs.Inside.Sweeps.{SweepOf};
 use sweep::Sweep;
 
 // What a sweep leaves: the comparisons that the rules count, those that it made besides, and how many windows are listed.
-#[derive(Drop)]
+#[derive(Clone, Copy)]
 pub(crate) struct Swept {
     pub spent: u32,
     pub wasted: u32,

@@ -60,7 +60,7 @@ fn goes_on(trace: &[i32], e: usize, way: Relation) -> bool
 }
 
 // Where the tests of one survivor end: E, the comparisons spent so far, and whether all its places passed.
-#[derive(Drop)]
+#[derive(Clone, Copy)]
 struct Reached {
     reach: usize,
     spent: u32,
@@ -103,7 +103,7 @@ fn climb(
 }
 
 // How far the sweep has come: E, the comparisons spent, and how many windows are listed.
-#[derive(Drop)]
+#[derive(Clone, Copy)]
 struct Progress {
     reach: usize,
     spent: u32,
@@ -151,7 +151,7 @@ fn steady_some(
 }
 
 // What a look ahead tells: whether there is a block all of whose windows pass, and the comparisons that the look made.
-#[derive(Drop)]
+#[derive(Clone, Copy)]
 struct Look {
     whole: bool,
     made: u32,
@@ -208,7 +208,7 @@ fn list_block(survivors: &[u32], k: usize, positions: &mut [u32], found: usize)
 }
 
 // What one turn of the sweep leaves: the survivor that comes next, how far the sweep has come, and the comparisons of a look that failed.
-#[derive(Drop)]
+#[derive(Clone, Copy)]
 struct Turn {
     next: usize,
     end: Progress,

@@ -4,14 +4,14 @@
 use order::Refusal;
 
 // Nothing to refuse, or why the call is refused.
-#[derive(Drop)]
+#[derive(Clone, Copy)]
 pub enum Checked {
     Fine,
     Refused(Refusal),
 }
 
 // The same of what a search is handed, which tells the number of windows too.
-#[derive(Drop)]
+#[derive(Clone, Copy)]
 pub enum Fitting {
     Fit(usize),
     Refused(Refusal),

@@ -4,6 +4,8 @@
 // Follows docs/RULES.md, "Sizes" and "Refusals", numbers 1 to 6 and 21. One look at the pattern at most, and a handful of comparisons.
 // Assumes nothing of its callers.
 
+#![tactic(auto)]
+
 mod answers;
 mod lost_stitches;
 mod search_sizes;

@@ -4,6 +4,8 @@
 // Follows docs/RULES.md, "Lost stitches". The first look takes the samples by fours and goes over all of them. The second does so block by
 // block, and takes only the block with the first lost one sample by sample. Assumes nothing of its callers.
 
+#![tactic(auto)]
+
 ghost use Rattle.std.specs.Prelude.{◌≡◌, ◌≤◌, length};
 ghost use Rattle.order.specs.Lost.{first_lost_lem, holds_lost_lem};
 ghost use Rattle.stitches.specs.Ends.{or_end};

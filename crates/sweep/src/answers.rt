@@ -3,14 +3,14 @@
 use order::Refusal;
 
 // The comparisons that it made, and how many windows are listed.
-#[derive(Drop)]
+#[derive(Clone, Copy)]
 pub struct Swept {
     pub spent: usize,
     pub found: usize,
 }
 
 // What was swept, or that the list has not as many entries as there are windows.
-#[derive(Drop)]
+#[derive(Clone, Copy)]
 pub enum Sweep {
     Done(Swept),
     Refused(Refusal),

@@ -4,6 +4,8 @@
 // Follows docs/RULES.md, "Sweep" (Jargalsaikhan 2022, section 3, counted from zero). Assumes nothing of its callers: with a pattern's own
 // tables and its survivors it is the rules' sweep, and of other tables or windows it is what it says.
 
+#![tactic(auto)]
+
 mod answers;
 mod sweeping;
 

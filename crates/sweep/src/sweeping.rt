@@ -14,7 +14,7 @@ use order::{Place, Refusal, Tested, Window, test_place};
 use words::{larger, smaller, wide32};
 
 // Where the tests of one window end: E, the comparisons spent so far, and whether all its places passed.
-#[derive(Drop)]
+#[derive(Clone, Copy)]
 struct Reached {
     reach: usize,
     spent: usize,

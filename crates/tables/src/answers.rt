@@ -3,7 +3,7 @@
 use order::Refusal;
 
 // What preparation answers.
-#[derive(Drop)]
+#[derive(Clone, Copy)]
 pub enum Prepared {
     Done,
     Refused(Refusal),

@@ -39,7 +39,7 @@ pub(crate) fn none_within(pattern: &[i32], from: usize, to: usize, lo: i32, hi: 
 
 // Where the samples begin that a claimed neighbour forbids. Up to the neighbour that is the next value beyond its own, since an equal
 // sample may stand there; from `start` on, the place after it, it is its own value. Where no neighbour is claimed all is forbidden.
-#[derive(Drop)]
+#[derive(Clone, Copy)]
 struct Limit {
     fits: bool,
     start: usize,

@@ -3,6 +3,8 @@
 // Follows docs/RULES.md, "Neighbours", "Witness", "What is written" and "Refusals" (Jargalsaikhan 2022 for witnesses). A call
 // that is refused has stored nothing: sizes are looked at first, then the work is done.
 
+#![tactic(auto)]
+
 mod answers;
 mod claimed;
 mod neighbours;

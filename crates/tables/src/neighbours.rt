@@ -19,14 +19,14 @@ use order::NONE;
 const STRIDE: usize = 8;
 
 // The values of a place's neighbours. Where there is none it is the limit on that side, the least or the greatest sample.
-#[derive(Drop)]
+#[derive(Clone, Copy)]
 struct Values {
     below: i32,
     above: i32,
 }
 
 // The entries of a place.
-#[derive(Drop)]
+#[derive(Clone, Copy)]
 struct Entries {
     low: u16,
     high: u16,

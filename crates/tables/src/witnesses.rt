@@ -15,7 +15,7 @@ ghost use Rattle.tables.specs.Inside.Asked.{OwnNeighbours, OwnWitness, OwnBelow,
 use order::{NONE, Offset, Place, Tested, test_place};
 
 // The entries of one offset: the neighbour that failed and the place that failed first, or none twice.
-#[derive(Drop)]
+#[derive(Clone, Copy)]
 struct Witness {
     i: u16,
     j: u16,
@@ -46,7 +46,7 @@ fn witness_from(pattern: &[i32], low: &[u16], high: &[u16], offset: Offset, from
 }
 
 // A stretch of the pattern, from its start up to its end, that stands in the order of the pattern's first places.
-#[derive(Drop)]
+#[derive(Clone, Copy)]
 struct Stretch {
     start: usize,
     end: usize,

@@ -4,6 +4,8 @@
 // Follows docs/RULES.md, "The C entry points". Each is one call of the crate `host_calls`, `host_recordings` or `host_frames`, which says what
 // it costs.
 
+#![tactic(auto)]
+
 ghost use Rattle.words.specs.Bytes.{samples_in};
 ghost use Rattle.host_calls.specs.HostPromises.{HostPrepare, HostSearch};
 ghost use Rattle.host_recordings.specs.Promises.{HostRead, HostWrite};

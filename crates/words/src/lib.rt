@@ -4,6 +4,8 @@
 // a list and a buffer hand over as many whole entries as both sides have, and all else stays as it was. A turn an entry, which the
 // compiler makes a copy of blocks, and no memory of its own.
 
+#![tactic(auto)]
+
 mod lists;
 mod numbers;
 mod widths;

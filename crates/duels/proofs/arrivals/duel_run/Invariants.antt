@@ -1,0 +1,29 @@
+-- `duel_run` meets its contract: the survivors buffer is the rules' stack, window by window and look by look. The measures are the windows
+-- left, and the entries of the stack.
+use Prim.Native.Nat.{◌+◌, ◌<◌, ◌≤◌, ◌-◌}
+use mathlib.Core.Path.{◌≡◌, refl, sym, ◌∙◌, ap}
+use mathlib.Core.Bool.{true, not}
+use mathlib.Core.Logic.{⊎_elim}
+use native.Mathlib.Omega.{arith}
+use lib.ListN.{length}
+use Rattle.order.specs.Sizes.{windows_of}
+use Rattle.order.proofs.Lists.{windows_few, window-inside}
+use Rattle.duels.specs.DuelPromise.{meets_by}
+use Rattle.duels.specs.Inside.Stacks.{enters}
+use Rattle.duels.proofs.StackLaws.{Looking, Settled, Running, run_begun, run_dropped, run_pushed, run_ended, looking, kept-below, few_arrived, settle_empty, settle_agree, settle_newer, settle_both, look_again, settled_as}
+use borrow.Author.Rules.{rules}
+use Rattle.duels.proofs.arrivals.duel_run.Given as goal
+
+abbrev pub invariant-loop-kept : goal.invariant-loop-kept
+invariant-loop-kept l =
+    Looking (meets_by l.pattern l.witness_i l.witness_j l.trace) l.survivors l.y (l.before.windows + (l.y - l.from)) l.initial.kept l.initial.both l.kept × (l.both ≡ l.initial.both)
+
+abbrev pub decreases-loop-kept : goal.decreases-loop-kept
+decreases-loop-kept l = l.kept
+
+abbrev pub invariant-windows : goal.invariant-windows
+invariant-windows l =
+    Running (meets_by l.pattern l.witness_i l.witness_j l.trace) (enters l.pattern l.trace) (windows_of (length l.pattern) (length l.trace)) l.from l.past l.initial.survivors l.survivors l.before.windows l.kept l.both l.y
+
+abbrev pub decreases-windows : goal.decreases-windows
+decreases-windows l = l.past - l.y

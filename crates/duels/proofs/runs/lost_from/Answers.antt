@@ -1,0 +1,23 @@
+-- `lost_from` meets its contract: the look at the rest of the trace tells the next lost stitch, where there are any.
+use mathlib.Core.Path.{sym, ◌∙◌}
+use native.Mathlib.Omega.{arith}
+use Rattle.duels.proofs.LostRuns.{none_from, some-from}
+use borrow.Author.Rules.{rules}
+use Rattle.duels.proofs.runs.lost_from.Goals as goal
+
+pub overflow_add-result : goal.overflow_add-result
+overflow_add-result c =
+    let s = c in
+    let w = (some-from s.args.trace.now s.args.from s.requires.1 c.first_lost.ensures).within in
+    let t = s.requires.2 in
+    omega arith
+
+pub returns-then-lost : goal.returns-then-lost
+returns-then-lost c =
+    let s = c in
+    some-from s.args.trace.now s.args.from s.requires.1 c.first_lost.ensures
+
+pub returns : goal.returns
+returns c =
+    let s = c in
+    none_from s.args.trace.now s.args.from s.requires.1 (sym c.if-lost.false ∙ s.requires.0)

@@ -1,0 +1,19 @@
+-- `run_from` meets its contract: where the next lost stitch stands tells where the run ends.
+use native.Mathlib.Omega.{arith}
+use lib.ListN.{length}
+use Rattle.order.proofs.Lists.{windows_of_as}
+use Rattle.duels.proofs.LostRuns.{no_run, some_run}
+use borrow.Author.Rules.{rules}
+use Rattle.duels.proofs.runs.run_from.Goals as goal
+
+pub lost_from-end-requires : goal.lost_from-end-requires
+lost_from-end-requires c =
+    let w = windows_of_as (length c.args.pattern.now) (length c.args.trace.now) in
+    let h = c.requires.1 in
+    (c.requires.0, omega arith, c.requires.2)
+
+pub returns-then-end-from : goal.returns-then-end-from
+returns-then-end-from c = no_run c.args.pattern.now c.args.trace.now c.lost_from-end.ensures c.requires.1 c.if-end-from.true
+
+pub returns : goal.returns
+returns c = some_run c.args.pattern.now c.args.trace.now c.lost_from-end.ensures c.requires.1 c.if-end-from.false

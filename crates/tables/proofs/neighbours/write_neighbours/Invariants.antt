@@ -1,0 +1,20 @@
+-- `write_neighbours` meets its contract. The loop's invariant: the places passed are written in both tables, and the rest is
+-- as it was. The measure is the places left.
+use mathlib.Core.Path.{◌≡◌, refl}
+use Prim.Native.Nat.{◌-◌, ◌≤◌}
+use native.Mathlib.Nat.{le_antisymm}
+use native.Mathlib.Omega.{arith}
+use lib.ListN.{length}
+use Rattle.order.specs.Sizes.{entry}
+use Rattle.order.specs.Neighbours.{low_of, high_of, low_table, high_table}
+use Rattle.order.proofs.Filling.{Filled, filled_none, filled_more, filled_all}
+use borrow.Author.Rules.{rules}
+use Rattle.tables.proofs.neighbours.write_neighbours.Given as goal
+
+abbrev pub invariant-loop-j : goal.invariant-loop-j
+invariant-loop-j l =
+    (l.j ≤ l.j-end) × (l.j-end ≡ length l.pattern) ×
+    Filled (λ k. entry (low_of l.pattern k)) l.j l.initial.low l.low × Filled (λ k. entry (high_of l.pattern k)) l.j l.initial.high l.high
+
+abbrev pub decreases-loop-j : goal.decreases-loop-j
+decreases-loop-j l = l.j-end - l.j

@@ -1,0 +1,14 @@
+-- `first_difference` meets its contract: what was passed is alike.
+use Prim.Native.Nat.{ℕ, ◌≤◌, ◌<◌, ◌-◌}
+use mathlib.Core.Path.{◌≡◌}
+use native.Mathlib.Omega.{arith}
+use borrow.Author.Count.{below_more}
+use lib.ListN.{get_or}
+use borrow.Author.Rules.{rules}
+use Rattle.tables.proofs.own_tables.first_difference.Given as goal
+
+abbrev pub invariant-loop-k : goal.invariant-loop-k
+invariant-loop-k l = (l.k ≤ l.m) × ((i : ℕ) → i < l.k → get_or l.table i 0 ≡ get_or l.own i 0)
+
+abbrev pub decreases-loop-k : goal.decreases-loop-k
+decreases-loop-k l = l.m - l.k
