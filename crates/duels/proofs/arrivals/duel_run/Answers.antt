@@ -1,5 +1,5 @@
 -- The goals of `duel_run` that the check leaves.
-use Prim.Native.Nat.{◌+◌, ◌<◌, ◌≤◌, ◌-◌}
+use Prim.Native.Nat.{ℕ, ◌+◌, ◌<◌, ◌≤◌, ◌-◌}
 use mathlib.Core.Path.{◌≡◌, refl, sym, ◌∙◌, ap}
 use mathlib.Core.Bool.{true, not}
 use mathlib.Core.Logic.{⊎_elim}
@@ -12,7 +12,7 @@ use Rattle.duels.specs.Inside.Stacks.{enters}
 use Rattle.duels.proofs.StackLaws.{Looking, Settled, Running, run_begun, run_dropped, run_pushed, run_ended, looking, kept-below, few_arrived, settle_empty, settle_agree, settle_newer, settle_both, look_again, settled_as}
 use borrow.Author.Rules.{rules}
 use Rattle.duels.proofs.arrivals.duel_run.Goals as goal
-use Rattle.duels.proofs.arrivals.duel_run.Goals.{At-windows, In-Pushed, In-windows, Joined-kept-eq0, Start}
+use Rattle.duels.proofs.arrivals.duel_run.Goals.{then-kept-eq0, else-kept-eq0+in-Agree, else-kept-eq0+in-NewerFalls, else-kept-eq0+in-BothFall, At-windows, In-windows, Joined-kept-eq0, Start}
 
 -- the windows of the trace are few
 few-windows : (c : Start) → c.args.past ≤ 65537
@@ -22,13 +22,14 @@ few-windows c =
     omega arith
 
 -- of those that have arrived, some are kept
-few-kept : (c : At-windows) → (c.windows.auto ≤ c.windows.y) × (c.windows.auto + c.windows.both ≤ c.windows.y) × (c.windows.y ≤ 65537)
+few-kept : (c : At-windows) → (c.windows.kept ≤ c.windows.y) × (c.windows.kept + c.windows.both ≤ c.windows.y) × (c.windows.y ≤ 65537)
 few-kept c =
     let i = c.windows.invariant in
     let n = i.standing.count in
     let a = few_arrived i.standing in
     let w = i.within in
-    let f = few-windows c.Start in
+    let f = windows_few (length c.args.pattern.now) (length c.args.trace.now) _ refl c.requires.0.trace in
+    let h = c.requires.2.inside in
     ((omega arith), (omega arith), (omega arith))
 
 pub windows-init : goal.windows-init
@@ -68,7 +69,7 @@ meet-requires c =
     let x = c.wide32-x.ensures.0 in
     let t = l.windows-test.true in
     let i = s.requires.2.inside in
-    let below = kept-below w.windows.invariant.standing (l.loop-kept.auto - 1) (omega arith) in
+    let below = kept-below w.windows.invariant.standing (l.loop-kept.kept - 1) (omega arith) in
     record {
       i_long = s.requires.0.i_long;
       j_long = s.requires.0.j_long;
@@ -94,19 +95,23 @@ overflow_add-both c =
 settled : (c : Joined-kept-eq0) →
     let w = c in
     let a = w.args in
-    Settled (meets_by a.pattern.now a.witness_i.now a.witness_j.now a.trace.now) w.windows.survivors w.windows.y (a.windows + (w.windows.y - a.from)) w.windows.auto w.windows.both
-    c.if-kept-eq0.auto c.if-kept-eq0.both c.if-kept-eq0.end
+    Settled (meets_by a.pattern.now a.witness_i.now a.witness_j.now a.trace.now) w.windows.survivors w.windows.y (a.before.windows + (w.windows.y - a.from)) w.windows.kept w.windows.both
+    c.if-kept-eq0.kept c.if-kept-eq0.both c.if-kept-eq0.end
 settled c =
     let i = c.loop-kept.invariant.0 in
     let e = c.loop-kept.invariant.1 in
-    ⊎_elim
-    (λ w. settled_as w.1 (w.2 ∙ e) w.3 (settle_empty i w.0.taken))
-    (⊎_elim
-    (λ w. settled_as w.6 (w.7 ∙ e) w.8 (settle_agree i w.0.left w.2.ensures.0 (sym w.3.ensures ∙ w.5.given.1)))
-    (⊎_elim
-    (λ w. settled_as w.6 (w.7 ∙ e) w.8 (settle_newer i w.0.left w.2.ensures.0 (sym w.3.ensures ∙ w.5.given.1)))
-    (λ w. settled_as w.6 (w.7 ∙ ap (λ n. n + 1) e) w.8 (settle_both i w.0.left w.2.ensures.0 (sym w.3.ensures ∙ w.5.given.1)))))
-    c.if-kept-eq0.branch
+    elim c.if-kept-eq0.branch [
+      | then-kept-eq0 w ↦ settled_as w.kept-is (w.both-is ∙ e) w.end-is (settle_empty i w.if-kept-eq0.true)
+      | else-kept-eq0+in-Agree w ↦
+          settled_as w.kept-is (w.both-is ∙ e) w.end-is
+          (settle_agree i w.if-kept-eq0.false w.wide32-x.ensures.0 (sym w.meet.ensures ∙ w.in-Agree.is))
+      | else-kept-eq0+in-NewerFalls w ↦
+          settled_as w.kept-is (w.both-is ∙ e) w.end-is
+          (settle_newer i w.if-kept-eq0.false w.wide32-x.ensures.0 (sym w.meet.ensures ∙ w.in-NewerFalls.is))
+      | else-kept-eq0+in-BothFall w ↦
+          settled_as w.kept-is (w.both-is ∙ ap (λ n. n + 1) e) w.end-is
+          (settle_both i w.if-kept-eq0.false w.wide32-x.ensures.0 (sym w.meet.ensures ∙ w.in-BothFall.is))
+    ]
 
 -- every window of the run takes part
 entering : (c : In-windows) →
@@ -121,32 +126,31 @@ windows-preserved-in_default c =
     let w = c in
     run_dropped w.windows.invariant w.windows-test.true (entering (goal.at.windows-preserved-in_default c).In-windows) (rw c.in_default.is at (settled (goal.at.windows-preserved-in_default c).Joined-kept-eq0))
 
--- the entry that the window goes to
-room : (c : In-Pushed) → (c.if-kept-eq0.auto < length c.windows.survivors) × (c.if-kept-eq0.auto ≤ 65537)
-room c =
-    let w = c in
-    let s = w in
-    let f = (settled c.Joined-kept-eq0).fewer in
-    let h = c.windows-test.true in
-    let k = few-kept c.At-windows in
-    let a = k.0 in
-    let b = k.2 in
-    let g = w.windows.invariant.behind.same_length in
-    let i = s.requires.2.inside in
-    let r = s.requires.0.enough in
-    ((omega arith), (omega arith))
+-- the entry that a window goes to is there: as many are kept at most as have arrived
+room : {kept before y past windows long survivors : ℕ} → kept ≤ before → before ≤ y → y ≤ 65537 → y < past → past ≤ windows → windows ≤ long → survivors ≡ long →
+    (kept < survivors) × (kept ≤ 65537)
+room f k few h inside enough same = (omega arith, omega arith)
 
 pub overflow_cast-survivors : goal.overflow_cast-survivors
 overflow_cast-survivors c = let k = few-kept (goal.at.overflow_cast-survivors c).At-windows in omega (arith, k.2)
 
 pub offset_bounds-survivors-kept-in-windows : goal.offset_bounds-survivors-kept-in-windows
-offset_bounds-survivors-kept-in-windows c = omega (arith, (room (goal.at.offset_bounds-survivors-kept-in-windows c).In-Pushed).1)
+offset_bounds-survivors-kept-in-windows c =
+    let k = few-kept (goal.at.offset_bounds-survivors-kept-in-windows c).At-windows in
+    let r = room (settled (goal.at.offset_bounds-survivors-kept-in-windows c).Joined-kept-eq0).fewer k.0 k.2 c.windows-test.true c.requires.2.inside c.requires.0.enough c.windows.invariant.behind.same_length in
+    omega (arith, r.1)
 
 pub bounds-survivors-kept-in-windows : goal.bounds-survivors-kept-in-windows
-bounds-survivors-kept-in-windows c = (room (goal.at.bounds-survivors-kept-in-windows c).In-Pushed).0
+bounds-survivors-kept-in-windows c =
+    let k = few-kept (goal.at.bounds-survivors-kept-in-windows c).At-windows in
+    let r = room (settled (goal.at.bounds-survivors-kept-in-windows c).Joined-kept-eq0).fewer k.0 k.2 c.windows-test.true c.requires.2.inside c.requires.0.enough c.windows.invariant.behind.same_length in
+    r.0
 
 pub overflow_add-kept : goal.overflow_add-kept
-overflow_add-kept c = omega (arith, (room (goal.at.overflow_add-kept c).In-Pushed).1)
+overflow_add-kept c =
+    let k = few-kept (goal.at.overflow_add-kept c).At-windows in
+    let r = room (settled (goal.at.overflow_add-kept c).Joined-kept-eq0).fewer k.0 k.2 c.windows-test.true c.requires.2.inside c.requires.0.enough c.windows.invariant.behind.same_length in
+    omega (arith, r.1)
 
 pub windows-preserved : goal.windows-preserved
 windows-preserved c =

@@ -12,7 +12,7 @@ use Rattle.duels.proofs.runs.arrive_run.Goals as goal
 use Rattle.duels.proofs.runs.arrive_run.Goals.{Start}
 
 -- the windows of the trace are few, and so are those that have arrived
-few : (c : Start) → (c.args.past ≤ 65537) × (c.args.windows ≤ c.args.from) × (c.args.kept + (c.args.past - c.args.from) ≤ windows_of (length c.args.pattern.now) (length c.args.trace.now)) × (c.args.from ≤ c.args.past)
+few : (c : Start) → (c.args.past ≤ 65537) × (c.args.before.windows ≤ c.args.from) × (c.args.before.kept + (c.args.past - c.args.from) ≤ windows_of (length c.args.pattern.now) (length c.args.trace.now)) × (c.args.from ≤ c.args.past)
 few c =
     let w = windows_few (length c.args.pattern.now) (length c.args.trace.now) _ refl c.requires.0.trace in
     let i = c.requires.2.inside in

@@ -17,7 +17,7 @@ loop-from-init c = (standing_as (at_first _ _ _) (omega arith) refl refl refl, s
 -- where a run begins
 begins : (c : In-loop-from) →
     let a = c.args in
-    ArrivedOf a.pattern.now a.witness_i.now a.witness_j.now a.trace.now c.loop-from.survivors c.loop-from.from c.loop-from.arrived c.loop-from.auto c.loop-from.both
+    ArrivedOf a.pattern.now a.witness_i.now a.witness_j.now a.trace.now c.loop-from.survivors c.loop-from.from c.loop-from.arrived c.loop-from.kept c.loop-from.both
 begins c =
     let s = c in
     let h = c.loop-from-test.true in
