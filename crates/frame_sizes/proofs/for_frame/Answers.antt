@@ -3,7 +3,6 @@ use mathlib.Core.Path.{refl, sym, ◌∙◌, ap₂}
 use native.Mathlib.Omega.{arith}
 use Rattle.frame_sizes.specs.declared.Tries.TheVariants.{At}
 use Rattle.frame_sizes.proofs.FrameRows.{promised, zero_size, large_size, narrow_pitch, short-frame, short-places, all_fit, no_zeros, none_large, sides_fit, few_tried, places-are}
-use borrow.Author.Rules.{rules}
 use Rattle.frame_sizes.proofs.for_frame.Goals as goal
 
 pub returns-then-is_zero : goal.returns-then-is_zero

@@ -2,7 +2,6 @@
 use mathlib.Core.Path.{ap}
 use mathlib.Core.Bool.{◌||◌}
 use lib.Dec.{ltb}
-use borrow.Author.Rules.{rules}
 use Rattle.frame_sizes.proofs.is_large.Goals as goal
 
 pub returns : goal.returns

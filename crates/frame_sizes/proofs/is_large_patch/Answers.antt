@@ -1,7 +1,6 @@
 -- `is_large_patch` meets its contract.
 use native.Mathlib.Omega.{arith}
 use Rattle.frame_sizes.proofs.FrameRows.{many_rows, many_columns, sides_fit}
-use borrow.Author.Rules.{rules}
 use Rattle.frame_sizes.proofs.is_large_patch.Goals as goal
 
 pub returns-then-h-gt-PATCH_LIMIT : goal.returns-then-h-gt-PATCH_LIMIT

@@ -3,7 +3,6 @@ use Prim.Native.Nat.{◌*◌}
 use mathlib.Core.Path.{ap}
 use mathlib.Core.Bool.{◌||◌}
 use lib.Dec.{ltb}
-use borrow.Author.Rules.{rules}
 use Rattle.frame_sizes.proofs.is_short.Goals as goal
 
 pub returns : goal.returns

@@ -1,6 +1,5 @@
 -- `is_short_frame` meets its contract.
 use Rattle.frame_sizes.proofs.FrameRows.{too_narrow, one_row_enough, rows-enough}
-use borrow.Author.Rules.{rules}
 use Rattle.frame_sizes.proofs.is_short_frame.Goals as goal
 
 pub returns-then-samples-width : goal.returns-then-samples-width

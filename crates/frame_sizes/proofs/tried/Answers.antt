@@ -1,7 +1,6 @@
 -- `tried` meets its contract.
 use native.Mathlib.Omega.{arith}
 use Rattle.order.proofs.Lists.{windows_of_as}
-use borrow.Author.Rules.{rules}
 use Rattle.frame_sizes.proofs.tried.Goals as goal
 
 pub returns-then-h-height : goal.returns-then-h-height

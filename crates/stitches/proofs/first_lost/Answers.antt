@@ -1,12 +1,9 @@
 -- The goals of `first_lost` that the check leaves.
-use Prim.Native.Nat.{◌-◌, ◌≤◌}
 use mathlib.Core.Path.{sym, ◌∙◌}
 use native.Mathlib.Omega.{arith}
-use lib.ListN.{length}
 use borrow.Author.Tests.{eq-eqb, ne_eqb}
-use Rattle.stitches.specs.Inside.{FreeWithin}
 use Rattle.stitches.proofs.Looks.{free_none, free_more, found_there, found_none, lost-told}
-use borrow.Author.Rules.{rules, sfits_of}
+use borrow.Author.Rules.{rules}
 use Rattle.stitches.proofs.first_lost.Goals as goal
 
 pub returns-then-samples-eq0 : goal.returns-then-samples-eq0

@@ -1,11 +1,8 @@
 -- The goals of `free_blocks` that the check leaves.
-use Prim.Native.Nat.{◌+◌, ◌-◌, ◌≤◌}
+use Prim.Native.Nat.{◌+◌}
 use mathlib.Core.Path.{sym, ◌∙◌}
 use native.Mathlib.Omega.{arith}
-use lib.ListN.{length}
-use Rattle.stitches.specs.Inside.{FreeWithin}
 use Rattle.stitches.proofs.Looks.{free_none, free_then, free_part}
-use borrow.Author.Rules.{rules}
 use Rattle.stitches.proofs.free_blocks.Goals as goal
 
 pub loop-i-init : goal.loop-i-init

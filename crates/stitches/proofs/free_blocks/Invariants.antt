@@ -1,11 +1,7 @@
 -- `free_blocks` meets its contract. The loop's invariant: none of the samples passed is lost. The measure is the samples left.
-use Prim.Native.Nat.{◌+◌, ◌-◌, ◌≤◌}
-use mathlib.Core.Path.{sym, ◌∙◌}
-use native.Mathlib.Omega.{arith}
+use Prim.Native.Nat.{◌-◌, ◌≤◌}
 use lib.ListN.{length}
 use Rattle.stitches.specs.Inside.{FreeWithin}
-use Rattle.stitches.proofs.Looks.{free_none, free_then, free_part}
-use borrow.Author.Rules.{rules}
 use Rattle.stitches.proofs.free_blocks.Given as goal
 
 abbrev pub invariant-loop-i : goal.invariant-loop-i

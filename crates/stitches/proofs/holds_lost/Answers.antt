@@ -1,11 +1,10 @@
 -- The goals of `holds_lost` that the check leaves.
-use Prim.Native.Nat.{◌-◌, ◌≤◌}
 use mathlib.Core.Path.{◌≡◌, sym, ◌∙◌, ap, ap₂}
 use mathlib.Core.Bool.{◌||◌}
 use native.Mathlib.Omega.{arith}
 use lib.ListN.{length}
 use Rattle.stitches.proofs.Looks.{lost-told, lost_below, none_below, one_below, all_below_lem}
-use borrow.Author.Rules.{rules, sfits_of}
+use borrow.Author.Rules.{rules}
 use Rattle.stitches.proofs.holds_lost.Goals as goal
 
 pub loop-i-init : goal.loop-i-init

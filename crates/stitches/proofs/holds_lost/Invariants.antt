@@ -1,11 +1,8 @@
 -- `holds_lost` meets its contract. The loop's invariant: the flag tells whether one of the samples passed is lost. The measure is the samples left.
 use Prim.Native.Nat.{◌-◌, ◌≤◌}
-use mathlib.Core.Path.{◌≡◌, sym, ◌∙◌, ap, ap₂}
-use mathlib.Core.Bool.{◌||◌}
-use native.Mathlib.Omega.{arith}
+use mathlib.Core.Path.{◌≡◌}
 use lib.ListN.{length}
-use Rattle.stitches.proofs.Looks.{lost-told, lost_below, none_below, one_below, all_below_lem}
-use borrow.Author.Rules.{rules, sfits_of}
+use Rattle.stitches.proofs.Looks.{lost_below}
 use Rattle.stitches.proofs.holds_lost.Given as goal
 
 abbrev pub invariant-loop-i : goal.invariant-loop-i

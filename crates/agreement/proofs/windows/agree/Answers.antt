@@ -2,7 +2,6 @@
 use mathlib.Core.Path.{sym, ◌∙◌}
 use Rattle.sizes.proofs.Verdicts.{fine_accepted, agree-room}
 use Rattle.agreement.proofs.Agreed.{agree-refused, agree_compared}
-use borrow.Author.Rules.{rules}
 use Rattle.agreement.proofs.windows.agree.Goals as goal
 
 pub agree_at-requires : goal.agree_at-requires

@@ -1,6 +1,5 @@
 -- `agree_at` meets its contract: each test that the code makes is the rule's own.
 use borrow.Author.Tests.{eq-eqb, ne_eqb, le-leb, lt-leb}
-use borrow.Author.Rules.{rules}
 use Rattle.agreement.proofs.windows.agree_at.Goals as goal
 
 pub returns-then-a-eq0 : goal.returns-then-a-eq0

@@ -1,6 +1,5 @@
 -- `duel` meets its contract: where the older window stands the newer falls, and otherwise its own comparison tells.
 use Rattle.duels.proofs.CodeLaws.{newer_falls, older_alone_falls, both_fall}
-use borrow.Author.Rules.{rules}
 use Rattle.duels.proofs.arrivals.duel.Goals as goal
 
 pub returns-then-seen-older : goal.returns-then-seen-older

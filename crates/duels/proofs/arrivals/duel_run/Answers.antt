@@ -2,15 +2,12 @@
 use Prim.Native.Nat.{ℕ, ◌+◌, ◌<◌, ◌≤◌, ◌-◌}
 use mathlib.Core.Path.{◌≡◌, refl, sym, ◌∙◌, ap}
 use mathlib.Core.Bool.{true, not}
-use mathlib.Core.Logic.{⊎_elim}
 use native.Mathlib.Omega.{arith}
 use lib.ListN.{length}
-use Rattle.order.specs.Sizes.{windows_of}
 use Rattle.order.proofs.Lists.{windows_few, window-inside}
 use Rattle.duels.specs.DuelPromise.{meets_by}
 use Rattle.duels.specs.Inside.Stacks.{enters}
-use Rattle.duels.proofs.StackLaws.{Looking, Settled, Running, run_begun, run_dropped, run_pushed, run_ended, looking, kept-below, few_arrived, settle_empty, settle_agree, settle_newer, settle_both, look_again, settled_as}
-use borrow.Author.Rules.{rules}
+use Rattle.duels.proofs.StackLaws.{Settled, run_begun, run_dropped, run_pushed, run_ended, looking, kept-below, few_arrived, settle_empty, settle_agree, settle_newer, settle_both, look_again, settled_as}
 use Rattle.duels.proofs.arrivals.duel_run.Goals as goal
 use Rattle.duels.proofs.arrivals.duel_run.Goals.{then-kept-eq0, else-kept-eq0+in-Agree, else-kept-eq0+in-NewerFalls, else-kept-eq0+in-BothFall, At-windows, In-windows, Joined-kept-eq0, Start}
 

@@ -1,17 +1,12 @@
 -- `duel_run` meets its contract: the survivors buffer is the rules' stack, window by window and look by look. The measures are the windows
 -- left, and the entries of the stack.
-use Prim.Native.Nat.{◌+◌, ◌<◌, ◌≤◌, ◌-◌}
-use mathlib.Core.Path.{◌≡◌, refl, sym, ◌∙◌, ap}
-use mathlib.Core.Bool.{true, not}
-use mathlib.Core.Logic.{⊎_elim}
-use native.Mathlib.Omega.{arith}
+use Prim.Native.Nat.{◌+◌, ◌-◌}
+use mathlib.Core.Path.{◌≡◌}
 use lib.ListN.{length}
 use Rattle.order.specs.Sizes.{windows_of}
-use Rattle.order.proofs.Lists.{windows_few, window-inside}
 use Rattle.duels.specs.DuelPromise.{meets_by}
 use Rattle.duels.specs.Inside.Stacks.{enters}
-use Rattle.duels.proofs.StackLaws.{Looking, Settled, Running, run_begun, run_dropped, run_pushed, run_ended, looking, kept-below, few_arrived, settle_empty, settle_agree, settle_newer, settle_both, look_again, settled_as}
-use borrow.Author.Rules.{rules}
+use Rattle.duels.proofs.StackLaws.{Looking, Running}
 use Rattle.duels.proofs.arrivals.duel_run.Given as goal
 
 abbrev pub invariant-loop-kept : goal.invariant-loop-kept

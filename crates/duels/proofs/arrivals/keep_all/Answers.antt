@@ -1,7 +1,5 @@
 -- The goals of `keep_all` that the check leaves.
-use Prim.Native.Nat.{◌+◌, ◌-◌, ◌≤◌}
 use mathlib.Core.Path.{◌≡◌, sym, ◌∙◌, ap, subst}
-use mathlib.Core.Bool.{false}
 use native.Mathlib.Omega.{arith}
 use lib.ListN.{length, set}
 use Rattle.stitches.specs.Inside.{FreeWithin}
@@ -9,7 +7,7 @@ use Rattle.stitches.proofs.Looks.{lost-told, free_none, free_more}
 use Rattle.duels.specs.Inside.Stacks.{pushed_run}
 use Rattle.duels.proofs.StackLaws.{length_run, run_none, all_more}
 use Rattle.duels.proofs.LostRuns.{or_none}
-use borrow.Author.Rules.{rules, sfits_of}
+use borrow.Author.Rules.{rules}
 use Rattle.duels.proofs.arrivals.keep_all.Goals as goal
 
 pub loop-y-init : goal.loop-y-init

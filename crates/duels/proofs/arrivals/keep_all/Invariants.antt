@@ -1,16 +1,10 @@
 -- `keep_all` meets its contract. The loop's invariant: the windows passed are written, and if the flag is still down no sample looked at is
 -- lost. The measure is the windows left.
 use Prim.Native.Nat.{◌+◌, ◌-◌, ◌≤◌}
-use mathlib.Core.Path.{◌≡◌, sym, ◌∙◌, ap, subst}
+use mathlib.Core.Path.{◌≡◌}
 use mathlib.Core.Bool.{false}
-use native.Mathlib.Omega.{arith}
-use lib.ListN.{length, set}
 use Rattle.stitches.specs.Inside.{FreeWithin}
-use Rattle.stitches.proofs.Looks.{lost-told, free_none, free_more}
 use Rattle.duels.specs.Inside.Stacks.{pushed_run}
-use Rattle.duels.proofs.StackLaws.{length_run, run_none, all_more}
-use Rattle.duels.proofs.LostRuns.{or_none}
-use borrow.Author.Rules.{rules, sfits_of}
 use Rattle.duels.proofs.arrivals.keep_all.Given as goal
 
 abbrev pub invariant-loop-y : goal.invariant-loop-y

@@ -1,11 +1,10 @@
 -- The goals of `keep_run` that the check leaves.
-use Prim.Native.Nat.{◌+◌, ◌-◌, ◌≤◌}
+use Prim.Native.Nat.{◌+◌, ◌-◌}
 use mathlib.Core.Path.{◌≡◌, sym, ◌∙◌, ap}
 use native.Mathlib.Omega.{arith}
 use lib.ListN.{length, set}
 use Rattle.duels.specs.Inside.Stacks.{pushed_run}
 use Rattle.duels.proofs.StackLaws.{length_run, run_none, run_more}
-use borrow.Author.Rules.{rules}
 use Rattle.duels.proofs.arrivals.keep_run.Goals as goal
 
 pub loop-k-init : goal.loop-k-init

@@ -1,11 +1,7 @@
 -- `keep_run` meets its contract. The loop's invariant: the windows passed are written, each behind the one before. The measure is the windows left.
-use Prim.Native.Nat.{◌+◌, ◌-◌, ◌≤◌}
-use mathlib.Core.Path.{◌≡◌, sym, ◌∙◌, ap}
-use native.Mathlib.Omega.{arith}
-use lib.ListN.{length, set}
+use Prim.Native.Nat.{◌-◌, ◌≤◌}
+use mathlib.Core.Path.{◌≡◌}
 use Rattle.duels.specs.Inside.Stacks.{pushed_run}
-use Rattle.duels.proofs.StackLaws.{length_run, run_none, run_more}
-use borrow.Author.Rules.{rules}
 use Rattle.duels.proofs.arrivals.keep_run.Given as goal
 
 abbrev pub invariant-loop-k : goal.invariant-loop-k

@@ -6,7 +6,6 @@ use lib.ListN.{get_or}
 use Rattle.duels.specs.Inside.Codes.{own_code_lem}
 use Rattle.duels.proofs.CodeLaws.{some-told}
 use Rattle.duels.proofs.MeetingByEntries.{far_agree, none_agree, some-duel, duelable}
-use borrow.Author.Rules.{rules}
 use Rattle.duels.proofs.arrivals.meet.Goals as goal
 
 pub returns-then-pattern-a : goal.returns-then-pattern-a

@@ -4,7 +4,7 @@ use mir.Syntax.{w32}
 use mir.Val.{to_z, of_z}
 use Rattle.order.specs.Sizes.{at}
 use Rattle.duels.proofs.CodeLaws.{two_bytes, told_by_tests}
-use borrow.Author.Rules.{rules, sfits_of}
+use borrow.Author.Rules.{rules}
 use Rattle.duels.proofs.codes.code_between.Goals as goal
 
 pub overflow_add-result : goal.overflow_add-result

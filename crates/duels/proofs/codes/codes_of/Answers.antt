@@ -3,7 +3,6 @@ use mathlib.Core.Path.{◌∙◌, ap₂}
 use native.Mathlib.Omega.{arith}
 use Rattle.duels.specs.Inside.Codes.{own_code_lem}
 use Rattle.duels.proofs.CodeLaws.{outside_looked, inside-looked}
-use borrow.Author.Rules.{rules}
 use Rattle.duels.proofs.codes.codes_of.Goals as goal
 
 pub returns-then-room-larger : goal.returns-then-room-larger

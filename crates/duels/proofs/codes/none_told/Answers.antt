@@ -1,13 +1,8 @@
 -- The goals of `none_told` that the check leaves.
-use Prim.Native.Nat.{◌-◌}
-use mathlib.Core.Path.{◌≡◌}
-use mathlib.Core.Bool.{true}
 use native.Mathlib.Omega.{arith}
 use borrow.Author.Tests.{eqb-true}
 use Rattle.order.proofs.Tests.{and_first, and_second}
-use Rattle.duels.specs.Inside.Codes.{NoneBelow}
 use Rattle.duels.proofs.CodeLaws.{none_so_far, one_none}
-use borrow.Author.Rules.{rules}
 use Rattle.duels.proofs.codes.none_told.Goals as goal
 
 pub loop-a-init : goal.loop-a-init

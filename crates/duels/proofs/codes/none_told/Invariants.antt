@@ -2,12 +2,7 @@
 use Prim.Native.Nat.{◌-◌}
 use mathlib.Core.Path.{◌≡◌}
 use mathlib.Core.Bool.{true}
-use native.Mathlib.Omega.{arith}
-use borrow.Author.Tests.{eqb-true}
-use Rattle.order.proofs.Tests.{and_first, and_second}
 use Rattle.duels.specs.Inside.Codes.{NoneBelow}
-use Rattle.duels.proofs.CodeLaws.{none_so_far, one_none}
-use borrow.Author.Rules.{rules}
 use Rattle.duels.proofs.codes.none_told.Given as goal
 
 abbrev pub invariant-loop-a : goal.invariant-loop-a

@@ -1,11 +1,8 @@
 -- The goals of `write_codes` that the check leaves.
-use Prim.Native.Nat.{◌-◌, ◌≤◌}
-use mathlib.Core.Path.{◌≡◌, refl, ◌∙◌}
+use mathlib.Core.Path.{refl, ◌∙◌}
 use native.Mathlib.Omega.{arith}
-use lib.ListN.{length, length-set}
-use Rattle.duels.specs.Inside.Codes.{Coded}
+use lib.ListN.{length-set}
 use Rattle.duels.proofs.CodeLaws.{none_coded, one_coded}
-use borrow.Author.Rules.{rules}
 use Rattle.duels.proofs.codes.write_codes.Goals as goal
 
 pub loop-a-init : goal.loop-a-init

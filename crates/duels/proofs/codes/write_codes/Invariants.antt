@@ -1,11 +1,8 @@
 -- `write_codes` meets its contract. The loop's invariant: the offsets passed are written in both lists. The measure is the offsets left.
 use Prim.Native.Nat.{◌-◌, ◌≤◌}
-use mathlib.Core.Path.{◌≡◌, refl, ◌∙◌}
-use native.Mathlib.Omega.{arith}
-use lib.ListN.{length, length-set}
+use mathlib.Core.Path.{◌≡◌}
+use lib.ListN.{length}
 use Rattle.duels.specs.Inside.Codes.{Coded}
-use Rattle.duels.proofs.CodeLaws.{none_coded, one_coded}
-use borrow.Author.Rules.{rules}
 use Rattle.duels.proofs.codes.write_codes.Given as goal
 
 abbrev pub invariant-loop-a : goal.invariant-loop-a

@@ -8,7 +8,6 @@ use Rattle.order.proofs.Lists.{windows_of_as}
 use Rattle.stitches.specs.Inside.{FreeWithin}
 use Rattle.stitches.proofs.Looks.{free_then, free_part}
 use Rattle.duels.proofs.StackLaws.{same_first, same_run}
-use borrow.Author.Rules.{rules}
 use Rattle.duels.proofs.dueling.all_kept.Goals as goal
 use Rattle.duels.proofs.dueling.all_kept.Goals.{Else-windows-eq0}
 

@@ -3,7 +3,6 @@ use native.Mathlib.Omega.{arith}
 use Rattle.duels.proofs.CodeLaws.{none_all_clear}
 use Rattle.duels.proofs.MeetingByEntries.{none_apart}
 use Rattle.duels.proofs.Promised.{all_up, kept-over, fought}
-use borrow.Author.Rules.{rules}
 use Rattle.duels.proofs.dueling.arrive_all.Goals as goal
 
 pub returns-then-all_kept : goal.returns-then-all_kept

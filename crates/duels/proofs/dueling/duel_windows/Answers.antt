@@ -1,6 +1,5 @@
 -- `duel_windows` meets its contract: lengths are refused before anything is stored, and otherwise it is what the arrivals leave.
 use Rattle.duels.proofs.Promised.{tables-refused, duels-refused, duels_ready, duels-done}
-use borrow.Author.Rules.{rules}
 use Rattle.duels.proofs.dueling.duel_windows.Goals as goal
 
 pub arrive_all-requires : goal.arrive_all-requires

@@ -1,7 +1,6 @@
 -- `fight` meets its contract: an offset that tells no witness is told before anything is stored; otherwise it is what the arrivals leave.
 use Rattle.duels.proofs.CodeLaws.{all_coded, coded_all_clear, stopped_there}
 use Rattle.duels.proofs.Promised.{fought, not-fought}
-use borrow.Author.Rules.{rules}
 use Rattle.duels.proofs.dueling.fight.Goals as goal
 
 pub returns-then-clear-pattern : goal.returns-then-clear-pattern

@@ -6,7 +6,6 @@ use Rattle.order.proofs.Lists.{windows_few}
 use Rattle.lists.proofs.FilledUp.{part_filled}
 use Rattle.duels.proofs.StackLaws.{few_arrived}
 use Rattle.duels.proofs.Promised.{filled_up}
-use borrow.Author.Rules.{rules}
 use Rattle.duels.proofs.dueling.keep.Goals as goal
 use Rattle.duels.proofs.dueling.keep.Goals.{After-arrive_runs-after}
 

@@ -7,7 +7,6 @@ use lib.ListN.{length}
 use Rattle.order.specs.Sizes.{windows_of}
 use Rattle.order.proofs.Lists.{windows_few}
 use Rattle.duels.proofs.StackLaws.{few_arrived, run_written, same_run}
-use borrow.Author.Rules.{rules}
 use Rattle.duels.proofs.runs.arrive_run.Goals as goal
 use Rattle.duels.proofs.runs.arrive_run.Goals.{Start}
 

@@ -1,13 +1,9 @@
 -- The goals of `arrive_runs` that the check leaves.
-use Prim.Native.Nat.{◌-◌, min}
 use mathlib.Core.Path.{refl}
 use native.Mathlib.Omega.{arith}
-use lib.ListN.{length}
-use Rattle.order.specs.Sizes.{windows_of}
-use Rattle.duels.specs.Inside.Stacks.{ArrivedOf, SameBehind}
+use Rattle.duels.specs.Inside.Stacks.{ArrivedOf}
 use Rattle.duels.proofs.StackLaws.{at_first, standing_as, same_first, same_then}
 use Rattle.duels.proofs.LostRuns.{run_over}
-use borrow.Author.Rules.{rules}
 use Rattle.duels.proofs.runs.arrive_runs.Goals as goal
 use Rattle.duels.proofs.runs.arrive_runs.Goals.{In-loop-from}
 

@@ -1,14 +1,9 @@
 -- `arrive_runs` meets its contract. The loop's invariant: of the windows before the next run those that take part have arrived. The measure is
 -- the windows left.
 use Prim.Native.Nat.{◌-◌, min}
-use mathlib.Core.Path.{refl}
-use native.Mathlib.Omega.{arith}
 use lib.ListN.{length}
 use Rattle.order.specs.Sizes.{windows_of}
 use Rattle.duels.specs.Inside.Stacks.{ArrivedOf, SameBehind}
-use Rattle.duels.proofs.StackLaws.{at_first, standing_as, same_first, same_then}
-use Rattle.duels.proofs.LostRuns.{run_over}
-use borrow.Author.Rules.{rules}
 use Rattle.duels.proofs.runs.arrive_runs.Given as goal
 
 abbrev pub invariant-loop-from : goal.invariant-loop-from

@@ -2,7 +2,6 @@
 use mathlib.Core.Path.{sym, ◌∙◌}
 use native.Mathlib.Omega.{arith}
 use Rattle.duels.proofs.LostRuns.{none_from, some-from}
-use borrow.Author.Rules.{rules}
 use Rattle.duels.proofs.runs.lost_from.Goals as goal
 
 pub overflow_add-result : goal.overflow_add-result

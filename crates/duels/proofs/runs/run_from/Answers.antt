@@ -3,7 +3,6 @@ use native.Mathlib.Omega.{arith}
 use lib.ListN.{length}
 use Rattle.order.proofs.Lists.{windows_of_as}
 use Rattle.duels.proofs.LostRuns.{no_run, some_run}
-use borrow.Author.Rules.{rules}
 use Rattle.duels.proofs.runs.run_from.Goals as goal
 
 pub lost_from-end-requires : goal.lost_from-end-requires

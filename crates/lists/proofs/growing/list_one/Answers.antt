@@ -1,6 +1,5 @@
 -- `list_one` meets its contract.
 use mathlib.Core.Path.{refl}
-use borrow.Author.Rules.{rules}
 use borrow.Author.Tests.{lt-ltb}
 use Rattle.lists.proofs.OneMore.{no_room}
 use Rattle.lists.proofs.growing.list_one.Goals as goal

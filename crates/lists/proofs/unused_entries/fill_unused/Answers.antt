@@ -1,10 +1,9 @@
 -- The goals of `fill_unused` that the check leaves.
-use Prim.Native.Nat.{◌≤◌, ◌-◌}
-use mathlib.Core.Path.{◌≡◌, refl, ◌∙◌, ap}
+use mathlib.Core.Path.{refl, ◌∙◌, ap}
 use native.Mathlib.Omega.{arith}
-use lib.ListN.{length, set, length-set}
+use lib.ListN.{set, length-set}
 use Rattle.order.specs.Sizes.{unused}
-use Rattle.lists.proofs.FilledUp.{filled_to, fill_one, fill_all}
+use Rattle.lists.proofs.FilledUp.{fill_one, fill_all}
 use borrow.Author.Rules.{rules}
 use Rattle.lists.proofs.unused_entries.fill_unused.Goals as goal
 

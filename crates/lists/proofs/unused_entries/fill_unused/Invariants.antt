@@ -1,11 +1,8 @@
 -- `fill_unused` meets its contract: one entry a turn is "unused". The measure is the entries left.
 use Prim.Native.Nat.{◌≤◌, ◌-◌}
-use mathlib.Core.Path.{◌≡◌, refl, ◌∙◌, ap}
-use native.Mathlib.Omega.{arith}
-use lib.ListN.{length, set, length-set}
-use Rattle.order.specs.Sizes.{unused}
-use Rattle.lists.proofs.FilledUp.{filled_to, fill_one, fill_all}
-use borrow.Author.Rules.{rules}
+use mathlib.Core.Path.{◌≡◌}
+use lib.ListN.{length}
+use Rattle.lists.proofs.FilledUp.{filled_to}
 use Rattle.lists.proofs.unused_entries.fill_unused.Given as goal
 
 abbrev pub invariant-loop-k : goal.invariant-loop-k

@@ -1,6 +1,6 @@
 -- `equal_there` meets its contract: the machine's comparison of two samples tells how they compare.
 use Rattle.order.proofs.Comparing.{equal_there_lem}
-use borrow.Author.Rules.{rules, sfits_of}
+use borrow.Author.Rules.{rules}
 use Rattle.order.proofs.place_test.equal_there.Goals as goal
 
 pub returns : goal.returns

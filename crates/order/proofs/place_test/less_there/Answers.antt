@@ -1,6 +1,6 @@
 -- `less_there` meets its contract: the machine's comparison of two samples tells how they compare.
 use Rattle.order.proofs.Comparing.{less_there_lem}
-use borrow.Author.Rules.{rules, sfits_of}
+use borrow.Author.Rules.{rules}
 use Rattle.order.proofs.place_test.less_there.Goals as goal
 
 pub returns : goal.returns

@@ -1,7 +1,6 @@
 -- `test_place` meets its contract: each way through the code is one case of the test by the two entries.
 use mathlib.Core.Bool.{true, false}
 use Rattle.order.proofs.EntrySteps.{past_end, no_low, one_told, low_passed, low_failed}
-use borrow.Author.Rules.{rules}
 use Rattle.order.proofs.place_test.test_place.Goals as goal
 
 pub returns-then-v-here : goal.returns-then-v-here

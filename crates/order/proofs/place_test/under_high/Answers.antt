@@ -1,7 +1,6 @@
 -- `under_high` meets its contract.
 use mathlib.Core.Bool.{true, false}
 use Rattle.order.proofs.EntrySteps.{no_high, high_told}
-use borrow.Author.Rules.{rules}
 use Rattle.order.proofs.place_test.under_high.Goals as goal
 
 pub returns-then-v-above : goal.returns-then-v-above

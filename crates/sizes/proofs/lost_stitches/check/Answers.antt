@@ -1,7 +1,6 @@
 -- `check` meets its contract: the first look tells whether there is a lost stitch, the second where.
 use mathlib.Core.Path.{sym, ◌∙◌}
 use Rattle.sizes.proofs.VerdictRows.{some-lost, none_lost}
-use borrow.Author.Rules.{rules}
 use Rattle.sizes.proofs.lost_stitches.check.Goals as goal
 
 pub returns-then-holds_lost : goal.returns-then-holds_lost

@@ -1,7 +1,6 @@
 -- `count_windows` meets its contract.
 use native.Mathlib.Omega.{arith}
 use Rattle.order.proofs.Lists.{windows_of_as}
-use borrow.Author.Rules.{rules}
 use Rattle.sizes.proofs.search_sizes.count_windows.Goals as goal
 
 pub returns-then-m-n : goal.returns-then-m-n

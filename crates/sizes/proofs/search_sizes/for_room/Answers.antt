@@ -1,6 +1,5 @@
 -- `for_room` meets its contract, condition by condition.
 use Rattle.sizes.proofs.VerdictRows.{room-long, room-survivors, room-positions, room_fine}
-use borrow.Author.Rules.{rules}
 use Rattle.sizes.proofs.search_sizes.for_room.Goals as goal
 
 pub returns-then-n-gt-TRACE_LIMIT : goal.returns-then-n-gt-TRACE_LIMIT

@@ -1,7 +1,6 @@
 -- `for_search` meets its contract.
 use mathlib.Core.Path.{sym, ◌∙◌}
 use Rattle.sizes.proofs.LengthLaws.{fitting_refused, fitting_fit}
-use borrow.Author.Rules.{rules}
 use Rattle.sizes.proofs.search_sizes.for_search.Goals as goal
 
 pub returns-in-Refused : goal.returns-in-Refused

@@ -4,7 +4,6 @@ use Rattle.order.specs.Refusals.{accepted, agree_verdict}
 use Rattle.sizes.specs.Answers.{checked_by}
 use Rattle.sizes.proofs.Verdicts.{own_room}
 use Rattle.sizes.proofs.VerdictRows.{pattern_through, pattern_stays}
-use borrow.Author.Rules.{rules}
 use Rattle.sizes.proofs.table_sizes.for_agreement.Goals as goal
 
 pub returns-in_default : goal.returns-in_default

@@ -3,7 +3,6 @@ use mathlib.Core.Path.{sym, ◌∙◌, ap}
 use Rattle.order.specs.Refusals.{prepare_verdict}
 use Rattle.sizes.specs.Answers.{checked_by}
 use Rattle.sizes.proofs.VerdictRows.{pattern_through, pattern_stays, stitches_through, stitches_stay}
-use borrow.Author.Rules.{rules}
 use Rattle.sizes.proofs.table_sizes.for_tables.Goals as goal
 
 pub returns-in_default : goal.returns-in_default

@@ -1,6 +1,5 @@
 -- `sweep` meets its contract: refused before anything is stored, or what the loop leaves.
 use Rattle.sweep.proofs.Promised.{sweep_refused, sweep_done}
-use borrow.Author.Rules.{rules}
 use Rattle.sweep.proofs.sweeping.sweep.Goals as goal
 
 pub returns-then-positions-count : goal.returns-then-positions-count

@@ -1,14 +1,12 @@
 -- The goals of `sweep_all` that the check leaves.
-use Prim.Native.Nat.{◌+◌, ◌≤◌, ◌<◌, ◌-◌}
-use mathlib.Core.Path.{◌≡◌, refl, ◌∙◌}
+use Prim.Native.Nat.{◌+◌, ◌≤◌, ◌<◌}
+use mathlib.Core.Path.{refl, ◌∙◌}
 use native.Mathlib.Omega.{arith}
-use lib.ListN.{length, get_or, drop}
+use lib.ListN.{length, get_or}
 use Rattle.lists.proofs.OneMore.{count-within}
-use Rattle.sweep.specs.Sweeps.{places_of, entry_tests, inside_part}
-use Rattle.sweep.specs.Inside.{SweptTo}
+use Rattle.sweep.specs.Sweeps.{places_of}
 use Rattle.sweep.proofs.Listing.{none_swept, rest_as, passed_over, store_behind, next_swept, swept_as}
 use Rattle.sweep.proofs.Promised.{one_inside, one_outside, all_swept}
-use borrow.Author.Rules.{rules}
 use Rattle.sweep.proofs.sweeping.sweep_all.Goals as goal
 
 pub loop-k-init : goal.loop-k-init

@@ -1,15 +1,10 @@
 -- `sweep_all` meets its contract: each turn sweeps one window as the rules do, or passes over one that is not in the trace. The loop's
 -- invariant: the windows passed are swept. The measure is the windows left.
-use Prim.Native.Nat.{◌+◌, ◌≤◌, ◌<◌, ◌-◌}
-use mathlib.Core.Path.{◌≡◌, refl, ◌∙◌}
-use native.Mathlib.Omega.{arith}
-use lib.ListN.{length, get_or, drop}
-use Rattle.lists.proofs.OneMore.{count-within}
+use Prim.Native.Nat.{◌-◌}
+use mathlib.Core.Path.{◌≡◌}
+use lib.ListN.{length, drop}
 use Rattle.sweep.specs.Sweeps.{places_of, entry_tests, inside_part}
 use Rattle.sweep.specs.Inside.{SweptTo}
-use Rattle.sweep.proofs.Listing.{none_swept, rest_as, passed_over, store_behind, next_swept, swept_as}
-use Rattle.sweep.proofs.Promised.{one_inside, one_outside, all_swept}
-use borrow.Author.Rules.{rules}
 use Rattle.sweep.proofs.sweeping.sweep_all.Given as goal
 
 abbrev pub invariant-loop-k : goal.invariant-loop-k

@@ -1,11 +1,8 @@
 -- The goals of `sweep_one` that the check leaves.
-use Prim.Native.Nat.{◌+◌, ◌-◌}
 use mathlib.Core.Path.{sym, ◌∙◌}
 use native.Mathlib.Omega.{arith}
-use Rattle.sweep.specs.Sweeps.{entry_tests}
-use Rattle.sweep.proofs.Testing.{Sweeping, begin_at, passed_on, ended_there, came_through, cheap_pass, cheap_fail}
+use Rattle.sweep.proofs.Testing.{begin_at, passed_on, ended_there, came_through, cheap_pass, cheap_fail}
 use Rattle.sweep.proofs.Promised.{entry-cheap, entry_test}
-use borrow.Author.Rules.{rules}
 use Rattle.sweep.proofs.sweeping.sweep_one.Goals as goal
 
 pub loop-j-init : goal.loop-j-init

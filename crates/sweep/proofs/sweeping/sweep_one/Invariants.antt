@@ -1,11 +1,7 @@
 -- `sweep_one` meets its contract: each turn is one test of the rules' sweep, by the entries.
 use Prim.Native.Nat.{◌+◌, ◌-◌}
-use mathlib.Core.Path.{sym, ◌∙◌}
-use native.Mathlib.Omega.{arith}
 use Rattle.sweep.specs.Sweeps.{entry_tests}
-use Rattle.sweep.proofs.Testing.{Sweeping, begin_at, passed_on, ended_there, came_through, cheap_pass, cheap_fail}
-use Rattle.sweep.proofs.Promised.{entry-cheap, entry_test}
-use borrow.Author.Rules.{rules}
+use Rattle.sweep.proofs.Testing.{Sweeping}
 use Rattle.sweep.proofs.sweeping.sweep_one.Given as goal
 
 abbrev pub invariant-loop-j : goal.invariant-loop-j
