@@ -1,13 +1,7 @@
 -- The goals of `neighbours_fit` that the check leaves.
-use Prim.Native.Nat.{ℕ, ◌≤◌, ◌<◌, ◌-◌}
-use mathlib.Core.Path.{◌≡◌, refl}
+use mathlib.Core.Path.{refl}
 use native.Mathlib.Omega.{arith}
 use borrow.Author.Count.{below_more}
-use borrow.Author.Tests.{not-false}
-use lib.ListN.{length, get_or}
-use Rattle.order.proofs.Tests.{clash}
-use Rattle.tables.specs.Inside.Claims.{OwnEntries}
-use borrow.Author.Rules.{rules}
 use Rattle.tables.proofs.claimed.neighbours_fit.Goals as goal
 
 pub loop-j-init : goal.loop-j-init
@@ -16,4 +10,4 @@ loop-j-init c = (omega arith, refl, λ k h. absurd (omega arith))
 pub loop-j-preserved : goal.loop-j-preserved
 loop-j-preserved c =
     let l = c.loop-j in
-    (omega arith, refl, below_more _ _ l.invariant.2 (c.place_fits.ensures (not-false _ c.if-not-place_fits.false)))
+    (omega arith, refl, below_more _ _ l.invariant.2 (c.place_fits.ensures c.if-not-place_fits.false))

@@ -1,14 +1,9 @@
 -- `neighbours_fit` meets its contract. The loop's invariant: the entries of the places passed are the pattern's own. The measure is the
 -- places left.
 use Prim.Native.Nat.{ℕ, ◌≤◌, ◌<◌, ◌-◌}
-use mathlib.Core.Path.{◌≡◌, refl}
-use native.Mathlib.Omega.{arith}
-use borrow.Author.Count.{below_more}
-use borrow.Author.Tests.{not-false}
+use mathlib.Core.Path.{◌≡◌}
 use lib.ListN.{length, get_or}
-use Rattle.order.proofs.Tests.{clash}
 use Rattle.tables.specs.Inside.Claims.{OwnEntries}
-use borrow.Author.Rules.{rules}
 use Rattle.tables.proofs.claimed.neighbours_fit.Given as goal
 
 abbrev pub invariant-loop-j : goal.invariant-loop-j

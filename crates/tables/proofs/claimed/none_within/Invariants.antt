@@ -3,19 +3,12 @@
 use Prim.Native.Nat.{ℕ, ◌≤◌, ◌<◌, ◌-◌}
 use mathlib.Core.Path.{◌≡◌}
 use mathlib.Core.Bool.{true}
-use native.Mathlib.Omega.{arith}
-use borrow.Author.Count.{below_more}
-use mir.Syntax.{w32}
-use mir.Val.{SFits, to_z}
-use mir.Facts.{to_z-of_z}
 use Rattle.order.specs.Sizes.{at}
-use Rattle.order.proofs.Tests.{and_first, and_second}
 use Rattle.tables.specs.Inside.Claims.{Outside}
-use borrow.Author.Rules.{rules, sfits_of}
 use Rattle.tables.proofs.claimed.none_within.Given as goal
 
 abbrev pub invariant-loop-i : goal.invariant-loop-i
-invariant-loop-i l = (l.clear ≡ true → (k : ℕ) → k < l.i → l.from ≤ k → Outside (to_z w32 l.lo) (to_z w32 l.hi) (at l.pattern k))
+invariant-loop-i l = (l.clear ≡ true → (k : ℕ) → k < l.i → l.from ≤ k → Outside l.lo l.hi (at l.pattern k))
 
 abbrev pub decreases-loop-i : goal.decreases-loop-i
 decreases-loop-i l = l.to - l.i

@@ -1,15 +1,14 @@
 -- The goals of `last_equal` that the check leaves.
-use Prim.Native.Nat.{◌-◌, ◌≤◌}
+use Prim.Native.Nat.{◌-◌}
 use mathlib.Core.Path.{sym, ◌∙◌, ap}
 use native.Mathlib.Omega.{arith}
 use mir.Syntax.{w32}
-use mir.Val.{to_z}
+use mir.Val.{SFits, to_z}
 use mir.Facts.{to_z-of_z}
-use Rattle.order.specs.Sizes.{none, place}
+use Rattle.order.specs.Sizes.{none, place, at}
 use Rattle.order.proofs.Entries.{entry_of_none, entry_of_place}
-use Rattle.tables.specs.Inside.Claims.{NoneWithin}
 use Rattle.tables.proofs.NearestByValue.{unequal_outside, within-back}
-use borrow.Author.Rules.{rules, sfits_of}
+use borrow.Author.Rules.{rules}
 use Rattle.tables.proofs.neighbours.last_equal.Goals as goal
 
 pub loop-i-init : goal.loop-i-init
@@ -17,35 +16,30 @@ loop-i-init c = c.pass_over-i.ensures
 
 pub returns-then-pattern-i : goal.returns-then-pattern-i
 returns-then-pattern-i c =
-    let l = c in
-    let s = l in
-    let i = l.loop-i.i in
+    let i = c.loop-i.i in
+    let f : SFits w32 (at c.args.pattern.now (i - 1)) = search rules in
     record {
       spot = place (i - 1);
       entry_is = sym (entry_of_place (i - 1));
       last = (
         omega arith,
-        sym (to_z-of_z (search rules)) ∙ ap (to_z w32) c.if-pattern-i.true ∙ to_z-of_z s.ranges.v,
-        record { clear = λ k g h. rw (to_z-of_z s.ranges.v) at (l.loop-i.invariant.1.clear k (omega arith) h) },
+        sym (to_z-of_z f) ∙ ap (to_z w32) c.if-pattern-i.true ∙ to_z-of_z c.ranges.v,
+        record { clear = λ k g h. rw (to_z-of_z c.ranges.v) at (c.loop-i.invariant.1.clear k (omega arith) h) },
       );
     }
 
 pub loop-i-preserved : goal.loop-i-preserved
-loop-i-preserved c =
-    let l = c in
-    let s = l in (
-      omega arith,
-      within-back c.loop-i-test.true
-          (rw (to_z-of_z s.ranges.v) (unequal_outside _ _ (search rules) s.ranges.v c.if-pattern-i.false))
-          l.loop-i.invariant.1,
-    )
+loop-i-preserved c = (
+  omega arith,
+  within-back c.loop-i-test.true
+      (rw (to_z-of_z c.ranges.v) (unequal_outside _ _ (search rules) c.ranges.v c.if-pattern-i.false))
+      c.loop-i.invariant.1,
+)
 
 pub returns : goal.returns
 returns c =
-    let l = c in
-    let s = l in
     record {
       spot = none;
       entry_is = sym entry_of_none;
-      last = record { clear = λ k g h. rw (to_z-of_z s.ranges.v) at (l.loop-i.invariant.1.clear k (omega arith) h) };
+      last = record { clear = λ k g h. rw (to_z-of_z c.ranges.v) at (c.loop-i.invariant.1.clear k (omega arith) h) };
     }

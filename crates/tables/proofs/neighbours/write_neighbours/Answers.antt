@@ -1,13 +1,9 @@
 -- The goals of `write_neighbours` that the check leaves.
-use mathlib.Core.Path.{◌≡◌, refl}
-use Prim.Native.Nat.{◌-◌, ◌≤◌}
+use mathlib.Core.Path.{refl}
 use native.Mathlib.Nat.{le_antisymm}
 use native.Mathlib.Omega.{arith}
-use lib.ListN.{length}
-use Rattle.order.specs.Sizes.{entry}
-use Rattle.order.specs.Neighbours.{low_of, high_of, low_table, high_table}
-use Rattle.order.proofs.Filling.{Filled, filled_none, filled_more, filled_all}
-use borrow.Author.Rules.{rules}
+use Rattle.order.specs.Neighbours.{low_table, high_table}
+use Rattle.order.proofs.Filling.{filled_none, filled_more, filled_all}
 use Rattle.tables.proofs.neighbours.write_neighbours.Goals as goal
 
 pub loop-j-init : goal.loop-j-init

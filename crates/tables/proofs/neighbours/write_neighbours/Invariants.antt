@@ -1,14 +1,11 @@
 -- `write_neighbours` meets its contract. The loop's invariant: the places passed are written in both tables, and the rest is
 -- as it was. The measure is the places left.
-use mathlib.Core.Path.{◌≡◌, refl}
+use mathlib.Core.Path.{◌≡◌}
 use Prim.Native.Nat.{◌-◌, ◌≤◌}
-use native.Mathlib.Nat.{le_antisymm}
-use native.Mathlib.Omega.{arith}
 use lib.ListN.{length}
 use Rattle.order.specs.Sizes.{entry}
-use Rattle.order.specs.Neighbours.{low_of, high_of, low_table, high_table}
-use Rattle.order.proofs.Filling.{Filled, filled_none, filled_more, filled_all}
-use borrow.Author.Rules.{rules}
+use Rattle.order.specs.Neighbours.{low_of, high_of}
+use Rattle.order.proofs.Filling.{Filled}
 use Rattle.tables.proofs.neighbours.write_neighbours.Given as goal
 
 abbrev pub invariant-loop-j : goal.invariant-loop-j

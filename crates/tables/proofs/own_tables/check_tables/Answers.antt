@@ -2,7 +2,6 @@
 use mathlib.Core.Path.{sym, ◌∙◌}
 use Rattle.sizes.proofs.Verdicts.{fine_accepted, prepare_room}
 use Rattle.tables.proofs.Promised.{tables-refused, tables_compared}
-use borrow.Author.Rules.{rules}
 use Rattle.tables.proofs.own_tables.check_tables.Goals as goal
 
 pub returns-in_default : goal.returns-in_default

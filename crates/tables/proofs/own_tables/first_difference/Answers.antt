@@ -1,9 +1,6 @@
 -- The goals of `first_difference` that the check leaves.
-use Prim.Native.Nat.{ℕ, ◌≤◌, ◌<◌, ◌-◌}
-use mathlib.Core.Path.{◌≡◌}
 use native.Mathlib.Omega.{arith}
 use borrow.Author.Count.{below_more}
-use lib.ListN.{get_or}
 use borrow.Author.Rules.{rules}
 use Rattle.tables.proofs.own_tables.first_difference.Goals as goal
 

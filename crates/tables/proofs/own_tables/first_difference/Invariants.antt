@@ -1,10 +1,7 @@
 -- `first_difference` meets its contract: what was passed is alike.
 use Prim.Native.Nat.{ℕ, ◌≤◌, ◌<◌, ◌-◌}
 use mathlib.Core.Path.{◌≡◌}
-use native.Mathlib.Omega.{arith}
-use borrow.Author.Count.{below_more}
 use lib.ListN.{get_or}
-use borrow.Author.Rules.{rules}
 use Rattle.tables.proofs.own_tables.first_difference.Given as goal
 
 abbrev pub invariant-loop-k : goal.invariant-loop-k

@@ -2,7 +2,6 @@
 use mathlib.Core.Path.{sym, ◌∙◌}
 use Rattle.sizes.proofs.Verdicts.{fine_accepted, prepare_room}
 use Rattle.tables.proofs.Promised.{prepare_refused, prepare_done}
-use borrow.Author.Rules.{rules}
 use Rattle.tables.proofs.preparation.prepare.Goals as goal
 
 pub write_tables-requires : goal.write_tables-requires

@@ -1,14 +1,13 @@
 -- `write_tables` meets its contract: the neighbours that the first call writes are those that the second asks for.
 use native.Mathlib.Omega.{arith}
 use Rattle.tables.proofs.OwnTables.{own-neighbours}
-use borrow.Author.Rules.{rules}
 use Rattle.tables.proofs.preparation.write_tables.Goals as goal
 
 pub write_witnesses-requires : goal.write_witnesses-requires
 write_witnesses-requires c =
-    let n = c in
-    let p = n.requires in
-    let w = n.write_neighbours in (
-      own-neighbours _ _ _ p.limit (omega (arith, w.auto)) (omega (arith, w.auto)) w.ensures.0 w.ensures.1,
-      (p.some, p.witness_i_room, p.witness_j_room),
-    )
+    let p = c.requires in
+    let w = c.write_neighbours in
+    record {
+      neighbours = own-neighbours _ _ _ p.limit (omega (arith, w.auto.low)) (omega (arith, w.auto.high)) w.ensures.0 w.ensures.1;
+      room = (p.some, p.witness_i_room, p.witness_j_room);
+    }

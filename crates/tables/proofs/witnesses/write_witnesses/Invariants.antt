@@ -1,11 +1,9 @@
 -- `write_witnesses` meets its contract. The loop's invariant: the offsets passed are written in both tables, the rest is as
 -- it was, and the stretch is known. The measure is the offsets left.
-use mathlib.Core.Path.{◌≡◌, refl, ◌∙◌}
+use mathlib.Core.Path.{◌≡◌}
 use Prim.Native.Nat.{◌-◌}
-use native.Mathlib.Omega.{arith}
-use lib.ListN.{length, length-set}
-use Rattle.tables.proofs.Turns.{Turn, turn-first, turn-own, turn_next, turn_last}
-use borrow.Author.Rules.{rules}
+use lib.ListN.{length}
+use Rattle.tables.proofs.Turns.{Turn}
 use Rattle.tables.proofs.witnesses.write_witnesses.Given as goal
 
 abbrev pub invariant-loop-a : goal.invariant-loop-a

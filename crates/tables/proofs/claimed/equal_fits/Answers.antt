@@ -1,0 +1,13 @@
+-- `equal_fits` meets its contract: an earlier equal sample with none after it is both neighbours.
+use borrow.Author.Tests.{eqb-true}
+use Rattle.tables.proofs.ClaimLaws.{equal_place, first_entries_lem}
+use borrow.Author.Rules.{rules}
+use Rattle.tables.proofs.claimed.equal_fits.Goals as goal
+
+pub returns-then-k-eq-NONE : goal.returns-then-k-eq-NONE
+returns-then-k-eq-NONE c = λ e. first_entries_lem _ _ _ (eqb-true _ _ e) c.if-k-eq-NONE.true
+
+pub returns-then-at-j : goal.returns-then-at-j
+returns-then-at-j c =
+    λ e. equal_place c.args.pattern.now c.args.j c.wide16-at.result c.wide16-at.ensures c.if-at-j.true (search rules) (search rules)
+    c.none_within.result c.none_within.ensures e
