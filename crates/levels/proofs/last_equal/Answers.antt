@@ -9,9 +9,6 @@ use Rattle.tables.proofs.NearestByValue.{within-back}
 use Rattle.levels.proofs.LevelLaws.{at_levels, level_outside}
 use Rattle.levels.proofs.last_equal.Goals as goal
 
-pub loop-i-init : goal.loop-i-init
-loop-i-init c = c.pass_over-i.ensures
-
 pub returns-then-grey-i : goal.returns-then-grey-i
 returns-then-grey-i c =
     let l = c.loop-i in

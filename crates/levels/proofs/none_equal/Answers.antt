@@ -6,9 +6,6 @@ use Rattle.order.proofs.Tests.{and_first, and_second}
 use Rattle.levels.proofs.LevelLaws.{level_outside}
 use Rattle.levels.proofs.none_equal.Goals as goal
 
-pub loop-i-init : goal.loop-i-init
-loop-i-init c = λ e k h g. absurd (omega arith)
-
 pub loop-i-preserved : goal.loop-i-preserved
 loop-i-preserved c = λ e.
     let l = c.loop-i in

@@ -1,11 +1,7 @@
 -- `ceiling` meets its contract: what a claimed high neighbour forbids, and that one more or one less than its sample is a sample.
-use Rattle.tables.proofs.ClaimLaws.{ceiling_none, ceiling_sum, ceiling_place}
+use Rattle.tables.proofs.ClaimLaws.{ceiling_none, ceiling_place}
 use borrow.Author.Rules.{rules}
 use Rattle.tables.proofs.claimed.ceiling.Goals as goal
-
-pub overflow_sub-result : goal.overflow_sub-result
-overflow_sub-result c =
-    ceiling_sum c.args.pattern.now c.args.j _ (search rules) (search rules) c.if-x-y.true
 
 pub returns-then-h-eq-NONE : goal.returns-then-h-eq-NONE
 returns-then-h-eq-NONE c = λ e. ceiling_none c.args.pattern.now c.args.j (search rules) c.if-h-eq-NONE.true

@@ -1,11 +1,7 @@
 -- `floor` meets its contract: what a claimed low neighbour forbids, and that one more or one less than its sample is a sample.
-use Rattle.tables.proofs.ClaimLaws.{floor_none, floor_sum, floor_place}
+use Rattle.tables.proofs.ClaimLaws.{floor_none, floor_place}
 use borrow.Author.Rules.{rules}
 use Rattle.tables.proofs.claimed.floor.Goals as goal
-
-pub overflow_add-result-then-y-x : goal.overflow_add-result-then-y-x
-overflow_add-result-then-y-x c =
-    floor_sum c.args.pattern.now c.args.j _ (search rules) (search rules) c.if-y-x.true
 
 pub returns-then-l-eq-NONE : goal.returns-then-l-eq-NONE
 returns-then-l-eq-NONE c = λ e. floor_none c.args.pattern.now c.args.j (search rules) c.if-l-eq-NONE.true

@@ -1,15 +1,7 @@
 -- `place_fits` meets its contract: equal neighbours are one place, and two others have nothing between them.
-use native.Mathlib.Omega.{arith}
 use Rattle.order.proofs.Tests.{and_first, and_second}
 use Rattle.tables.proofs.ClaimLaws.{between_entries}
 use Rattle.tables.proofs.claimed.place_fits.Goals as goal
-
-pub none_between-requires : goal.none_between-requires
-none_between-requires c =
-    let f = c.floor-below in
-    let b = c.ceiling-above in
-    let h = c.requires.0 in
-    ((f.ensures (and_first _ b.result.fits c.if-below-above.true)).reach, (b.ensures (and_second f.result.fits _ c.if-below-above.true)).reach, omega arith)
 
 pub returns-then-below-above : goal.returns-then-below-above
 returns-then-below-above c =

@@ -7,12 +7,8 @@ use mir.Val.{SFits, to_z}
 use mir.Facts.{to_z-of_z}
 use Rattle.order.specs.Sizes.{none, place, at}
 use Rattle.order.proofs.Entries.{entry_of_none, entry_of_place}
-use Rattle.tables.proofs.NearestByValue.{unequal_outside, within-back}
 use borrow.Author.Rules.{rules}
 use Rattle.tables.proofs.neighbours.last_equal.Goals as goal
-
-pub loop-i-init : goal.loop-i-init
-loop-i-init c = c.pass_over-i.ensures
 
 pub returns-then-pattern-i : goal.returns-then-pattern-i
 returns-then-pattern-i c =
@@ -27,14 +23,6 @@ returns-then-pattern-i c =
         record { clear = λ k g h. rw (to_z-of_z c.ranges.v) at (c.loop-i.invariant.1.clear k (omega arith) h) },
       );
     }
-
-pub loop-i-preserved : goal.loop-i-preserved
-loop-i-preserved c = (
-  omega arith,
-  within-back c.loop-i-test.true
-      (rw (to_z-of_z c.ranges.v) (unequal_outside _ _ (search rules) c.ranges.v c.if-pattern-i.false))
-      c.loop-i.invariant.1,
-)
 
 pub returns : goal.returns
 returns c =

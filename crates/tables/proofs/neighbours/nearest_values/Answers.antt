@@ -1,12 +1,10 @@
 -- The goals of `nearest_values` that the check leaves.
-use mathlib.Core.Path.{◌∙◌, ap}
-use native.Mathlib.Nat.{le_antisymm}
+use mathlib.Core.Path.{◌∙◌}
 use native.Mathlib.Omega.{arith}
 use mir.Syntax.{w32}
 use mir.Val.{SFits}
 use mir.Facts.{to_z-of_z}
 use Rattle.order.specs.Sizes.{at}
-use Rattle.tables.specs.Inside.NearValues.{nearest_value}
 use Rattle.tables.proofs.NearestByValue.{value_none, value_more}
 use borrow.Author.Count.{below_more}
 use borrow.Author.Rules.{rules}
@@ -31,13 +29,3 @@ loop-i-preserved c =
       value_more _ _ _ _ _ c.loop-i.invariant.2 (to_z-of_z f_high ∙ high) (to_z-of_z f_above ∙ c.pick-above.ensures),
       below_more _ _ c.loop-i.invariant.3 fy,
     )
-
-pub returns : goal.returns
-returns c =
-    let f : SFits w32 (at c.args.pattern.now c.args.j) = search rules in
-    let end = le_antisymm c.loop-i.invariant.0 c.loop-i-test.false in
-    record {
-      samples = λ i h. below_more (λ k. SFits w32 (at c.args.pattern.now k)) _ (rw end at c.loop-i.invariant.3) f i (omega arith);
-      low_value = c.loop-i.invariant.1 ∙ ap (nearest_value _ _ _ _) end;
-      high_value = c.loop-i.invariant.2 ∙ ap (nearest_value _ _ _ _) end;
-    }

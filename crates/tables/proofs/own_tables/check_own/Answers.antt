@@ -2,9 +2,6 @@
 use Rattle.tables.proofs.ForeignEntries.{own_pass, witnesses_decide}
 use Rattle.tables.proofs.own_tables.check_own.Goals as goal
 
-pub check_witnesses-requires : goal.check_witnesses-requires
-check_witnesses-requires c = record { neighbours = c.neighbours_fit.ensures c.if-neighbours_fit.true; room = c.requires }
-
 pub returns-then-neighbours_fit : goal.returns-then-neighbours_fit
 returns-then-neighbours_fit c =
     let a = c.args in

@@ -8,14 +8,11 @@ returns-in_default c =
     let a = c.args in
     neighbours_decide a.pattern.now a.low.now a.high.now a.witness_i.now a.witness_j.now c.compare_neighbours-neighbours.ensures c.in_default.is
 
-pub check_witnesses-requires : goal.check_witnesses-requires
-check_witnesses-requires c =
+pub check_witnesses-requires-clause-neighbours : goal.check_witnesses-requires-clause-neighbours
+check_witnesses-requires-clause-neighbours c =
     let a = c.args in
     let r = c.requires in
-    record {
-      neighbours = passed_own a.pattern.now a.low.now a.high.now r.limit r.low_room r.high_room (sym c.in-Fine.is ∙ c.compare_neighbours-neighbours.ensures);
-      room = r;
-    }
+    passed_own a.pattern.now a.low.now a.high.now r.limit r.low_room r.high_room (sym c.in-Fine.is ∙ c.compare_neighbours-neighbours.ensures)
 
 pub returns : goal.returns
 returns c =

@@ -3,11 +3,8 @@ use native.Mathlib.Omega.{arith}
 use Rattle.tables.proofs.OwnTables.{own-neighbours}
 use Rattle.tables.proofs.preparation.write_tables.Goals as goal
 
-pub write_witnesses-requires : goal.write_witnesses-requires
-write_witnesses-requires c =
+pub write_witnesses-requires-clause-neighbours : goal.write_witnesses-requires-clause-neighbours
+write_witnesses-requires-clause-neighbours c =
     let p = c.requires in
     let w = c.write_neighbours in
-    record {
-      neighbours = own-neighbours _ _ _ p.limit (omega (arith, w.auto.low)) (omega (arith, w.auto.high)) w.ensures.0 w.ensures.1;
-      room = (p.some, p.witness_i_room, p.witness_j_room);
-    }
+    own-neighbours _ _ _ p.limit (omega (arith, w.auto.low)) (omega (arith, w.auto.high)) w.ensures.0 w.ensures.1

@@ -1,6 +1,6 @@
 -- `further` meets its contract: an offset that was tested gives a stretch up to its first failing place, and the stretch that
 -- was known stays one.
-use Rattle.tables.proofs.Stretches.{stretch_to_end, stretch_to_failing, stretch_kept}
+use Rattle.tables.proofs.Stretches.{stretch_to_end, stretch_to_failing}
 use Rattle.tables.proofs.witnesses.further.Goals as goal
 
 pub returns-then-failing-eq-NONE : goal.returns-then-failing-eq-NONE
@@ -10,6 +10,3 @@ returns-then-failing-eq-NONE c =
 
 pub returns-then-end-reach : goal.returns-then-end-reach
 returns-then-end-reach c = stretch_to_failing c.requires.stretch _ c.requires.inside.2 c.if-failing-eq-NONE.false
-
-pub returns : goal.returns
-returns c = stretch_kept c.requires.stretch

@@ -5,10 +5,10 @@ use Rattle.tables.proofs.Offsets.{known_none}
 use Rattle.tables.proofs.Stretches.{earlier, settled, unsettled}
 use Rattle.tables.proofs.witnesses.witness_at.Goals as goal
 
-pub witness_from-requires : goal.witness_from-requires
-witness_from-requires c =
+pub witness_from-requires-clause-below : goal.witness_from-requires-clause-below
+witness_from-requires-clause-below c =
     let p = c.requires in
-    record { neighbours = p.neighbours; below = known_none _ _ (omega (arith, p.earlier.inside)) }
+    known_none _ _ (omega (arith, p.earlier.inside))
 
 pub returns-then-j-inside : goal.returns-then-j-inside
 returns-then-j-inside c =
@@ -18,10 +18,7 @@ returns-then-j-inside c =
     (p.earlier.witness_j_own _ (earlier p.stretch))
     c.if-j-inside.true
 
-pub witness_from-requires-2 : goal.witness_from-requires-2
-witness_from-requires-2 c =
+pub witness_from-requires-2-clause-below : goal.witness_from-requires-2-clause-below
+witness_from-requires-2-clause-below c =
     let p = c.requires in
-    record {
-      neighbours = p.neighbours;
-      below = unsettled p.stretch c.if-end-a.false _ (p.earlier.witness_j_own _ (earlier p.stretch)) c.if-j-inside.false;
-    }
+    unsettled p.stretch c.if-end-a.false _ (p.earlier.witness_j_own _ (earlier p.stretch)) c.if-j-inside.false

@@ -7,36 +7,12 @@ use Rattle.order.specs.declared.steps.Tested.TheVariants.{Passed}
 use Rattle.tables.proofs.Offsets.{rest_length, own_test, known_more, known_all, known_fails, failed_before}
 use Rattle.tables.proofs.witnesses.witness_from.Goals as goal
 
-pub loop-j-init : goal.loop-j-init
-loop-j-init c = c.requires.below
-
-pub bounds-low-j : goal.bounds-low-j
-bounds-low-j c =
-    let n = rest_length c.args.pattern.now c.args.offset.0 in
-    let t = c.loop-j-test.true in
-    let r = c.requires.neighbours.low_room in
-    omega arith
-
-pub bounds-high-j : goal.bounds-high-j
-bounds-high-j c =
-    let n = rest_length c.args.pattern.now c.args.offset.0 in
-    let t = c.loop-j-test.true in
-    let r = c.requires.neighbours.high_room in
-    omega arith
-
 pub overflow_cast-result : goal.overflow_cast-result
 overflow_cast-result c =
     let n = rest_length c.args.pattern.now c.args.offset.0 in
     let k = c.loop-j-test.true in
     let i : c.loop-j.j < length c.args.pattern.now - c.args.offset.0 = omega arith in
     let h = failed_before _ _ _ (sym (own_test c.args.offset.0 c.loop-j.j c.requires.neighbours i) ∙ sym c.test_place.ensures ∙ c.in-Failed.is) in
-    let l = c.requires.neighbours.limit in
-    omega arith
-
-pub overflow_cast-result-in-Failed : goal.overflow_cast-result-in-Failed
-overflow_cast-result-in-Failed c =
-    let n = rest_length c.args.pattern.now c.args.offset.0 in
-    let k = c.loop-j-test.true in
     let l = c.requires.neighbours.limit in
     omega arith
 
