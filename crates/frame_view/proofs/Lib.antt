@@ -1,2 +1,0 @@
--- What both walks use of numbers.
-pub mod Numbers

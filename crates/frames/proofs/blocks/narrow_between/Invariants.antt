@@ -1,0 +1,16 @@
+-- `narrow_between` meets its contract. The loop's invariant: the entries passed are thinned out, with their number. The measure is the entries left.
+use Prim.Native.Nat.{◌+◌, ◌-◌, ◌≤◌}
+use mathlib.Core.Path.{refl}
+use mathlib.Core.Bool.{false, ◌&&◌}
+use native.Mathlib.Omega.{arith}
+use lib.Dec.{ltb}
+use lib.ListN.{length, get_or}
+use Rattle.frames.proofs.MaskLaws.{Thinned, count_fits, thinned_none, thinned_more, thinned_all}
+use borrow.Author.Rules.{rules}
+use Rattle.frames.proofs.blocks.narrow_between.Given as goal
+
+abbrev pub invariant-loop-i : goal.invariant-loop-i
+invariant-loop-i l = (l.i ≤ length l.initial.mask) × Thinned (λ i. ltb (get_or l.frame (l.a + i) 0) (get_or l.frame (l.b + i) 0) && ltb (get_or l.frame (l.b + i) 0) (get_or l.frame (l.c + i) 0)) l.initial.mask l.mask l.i l.standing
+
+abbrev pub decreases-loop-i : goal.decreases-loop-i
+decreases-loop-i l = length l.initial.mask - l.i

@@ -1,0 +1,17 @@
+-- `search_row` meets its contract. The loop's invariant: the columns passed are listed. The measure is the columns left.
+use Prim.Native.Nat.{◌+◌, ◌-◌, ◌≤◌}
+use mathlib.Core.Path.{◌≡◌, refl}
+use native.Mathlib.Nat.{le_antisymm}
+use native.Mathlib.Omega.{arith}
+use lib.ListN.{length}
+use Rattle.frames.specs.Inside.{all_places_pass, Listed}
+use Rattle.frames.proofs.OffsetLaws.{within-part}
+use Rattle.frames.proofs.ListingLaws.{listed_none, listed_all, block_then}
+use borrow.Author.Rules.{rules}
+use Rattle.frames.proofs.rows.search_row.Given as goal
+
+abbrev pub invariant-loop-c : goal.invariant-loop-c
+invariant-loop-c l = (l.c ≤ l.columns) × (length l.positions ≡ length l.initial.positions) × Listed (λ i. all_places_pass l.frame l.offsets l.below l.above (l.at + i)) l.base l.c l.found l.initial.positions l.n l.positions
+
+abbrev pub decreases-loop-c : goal.decreases-loop-c
+decreases-loop-c l = l.columns - l.c

@@ -1,0 +1,16 @@
+-- `search_rows` meets its contract. The loop's invariant: the places of the rows passed are listed. The measure is the rows left.
+use Prim.Native.Nat.{◌+◌, ◌-◌, ◌*◌, ◌≤◌}
+use mathlib.Core.Path.{◌≡◌, refl}
+use native.Mathlib.Nat.{le_antisymm}
+use native.Mathlib.Omega.{arith}
+use lib.ListN.{length}
+use Rattle.frames.specs.Inside.{all_places_pass, RowsListed}
+use Rattle.frames.proofs.ListingLaws.{rows_none, rows_more, rows_all, row_room, base_fits}
+use borrow.Author.Rules.{rules}
+use Rattle.frames.proofs.rows.search_rows.Given as goal
+
+abbrev pub invariant-loop-row : goal.invariant-loop-row
+invariant-loop-row l = (l.row ≤ l.rows) × (length l.positions ≡ length l.initial.positions) × RowsListed (λ row column. all_places_pass l.frame l.offsets l.below l.above (row * l.pitch + column)) l.width l.columns l.row l.initial.positions l.found l.positions
+
+abbrev pub decreases-loop-row : goal.decreases-loop-row
+decreases-loop-row l = l.rows - l.row

@@ -1,0 +1,12 @@
+-- `climb` meets its contract: each turn is one test of the rules' sweep, of one comparison.
+use Prim.Native.Nat.{ℕ, ◌-◌}
+use mathlib.Core.Path.{sym, ◌∙◌, subst}
+use Rattle.search.proofs.Climbing.{Climbs, climb_begins, climbs_on, climb_fails, climb_ends}
+use borrow.Author.Rules.{rules}
+use Rattle.search.proofs.steady.climb.Given as goal
+
+abbrev pub invariant-loop-e : goal.invariant-loop-e
+invariant-loop-e l = Climbs l.pattern l.trace l.start l.from l.before l.e l.spent
+
+abbrev pub decreases-loop-e : goal.decreases-loop-e
+decreases-loop-e l = l.stop - l.e

@@ -1,0 +1,17 @@
+-- `sweep_steady` meets its contract. The loop's invariant has the comparisons made so far, those of looks that failed among them: at most one
+-- for each sample passed and two for each survivor done. The measure is the survivors left.
+use Prim.Native.Nat.{◌+◌, ◌-◌, ◌*◌, ◌≤◌}
+use mathlib.Core.Path.{◌∙◌}
+use native.Mathlib.Omega.{arith}
+use lib.ListN.{length}
+use Rattle.search.specs.Inside.Sweeps.{SweptTo, Turned, first, turn}
+use Rattle.search.proofs.SweepSteps.{none_swept, from_here, from_there, all_swept, rows-number, rows_few}
+use borrow.Author.Rules.{rules}
+use Rattle.search.proofs.steady.sweep_steady.Given as goal
+
+abbrev pub invariant-loop-k : goal.invariant-loop-k
+invariant-loop-k l =
+    SweptTo l.pattern l.trace l.kept l.initial.positions l.positions l.k l.so_far.reach l.so_far.spent l.so_far.found × (l.so_far.spent + l.wasted ≤ l.so_far.reach + 2 * l.k) × (l.kept ≤ length l.initial.positions) × Turned l.pattern l.trace l.survivors l.kept l.k l.so_far.reach l.so_far.spent l.wasted
+
+abbrev pub decreases-loop-k : goal.decreases-loop-k
+decreases-loop-k l = l.kept - l.k
