@@ -1,0 +1,20 @@
+-- `prepare_samples` meets its contract: refused before anything is written, or the tables.
+use mathlib.Core.Path.{sym, ◌∙◌}
+use Rattle.host_calls.proofs.PrepareLaws.{fine_fits, prepare_refused, prepare_put}
+use borrow.Author.Rules.{rules}
+use Rattle.host_calls.proofs.preparing.prepare_samples.Goals as goal
+
+pub put_tables-requires : goal.put_tables-requires
+put_tables-requires c =
+    let a = c.args in
+    fine_fits a.pattern.now a.low.now a.high.now a.witness_i.now a.witness_j.now (sym c.in-Fine.is ∙ c.for_tables.ensures)
+
+pub returns-in-Refused : goal.returns-in-Refused
+returns-in-Refused c =
+    let a = c.args in
+    prepare_refused a.pattern.now a.low.now a.high.now a.witness_i.now a.witness_j.now _ (sym c.in-Refused.is ∙ c.for_tables.ensures) c.result_of.ensures
+
+pub returns-in-Fine : goal.returns-in-Fine
+returns-in-Fine c =
+    let a = c.args in
+    prepare_put a.pattern.now a.low.now a.high.now a.witness_i.now a.witness_j.now (sym c.in-Fine.is ∙ c.for_tables.ensures) c.put_tables.ensures

@@ -1,0 +1,26 @@
+-- `search_sized` meets its contract: a long trace is searched as `search_long` does, and a short one is refused before anything is written,
+-- or searched in arrays of its size.
+use Rattle.host_calls.proofs.SearchingLaws.{search_fits, search_refused}
+use borrow.Author.Rules.{rules}
+use Rattle.host_calls.proofs.tiers.search_sized.Goals as goal
+
+pub search_short-requires : goal.search_short-requires
+search_short-requires c =
+    let a = c.args in
+    record {
+      trace_len_bound = search rules;
+      fits = search_fits a.pattern.now a.low.now a.high.now a.witness_i.now a.witness_j.now a.trace.now a.survivors.now a.positions.now a.counts.now _ c.for_search.ensures c.in-Fit.is;
+    }
+
+pub search_brief-requires : goal.search_brief-requires
+search_brief-requires c =
+    let a = c.args in
+    record {
+      trace_len_bound = search rules;
+      fits = search_fits a.pattern.now a.low.now a.high.now a.witness_i.now a.witness_j.now a.trace.now a.survivors.now a.positions.now a.counts.now _ c.for_search.ensures c.in-Fit.is;
+    }
+
+pub returns-in-Refused : goal.returns-in-Refused
+returns-in-Refused c =
+    let a = c.args in
+    search_refused a.pattern.now a.low.now a.high.now a.witness_i.now a.witness_j.now a.trace.now a.survivors.now a.positions.now a.counts.now _ c.for_search.ensures c.in-Refused.is c.result_of.ensures
