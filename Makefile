@@ -2,17 +2,19 @@
 PREFIX ?= /usr/local
 DESTDIR ?=
 
+archive = crates/tension_host/out/libtension_host.a
+
 .PHONY: run test cases host install compare turns count
 
-# proves and builds the program, saying which crate is proved, and searches the recording in examples/; target/run.log has all that
-# the check says. A file tells whether it passed, since sh has only the status of a pipe's end.
+# proves and builds the program, saying which function is proved, and searches the recording in examples/; crates/bench/out/run.log has
+# all that the check says. A file tells whether it passed, since sh has only the status of a pipe's end.
 run:
 	@echo "Proving and building bench (the first time takes some minutes) .."
-	@mkdir -p target && rm -f target/run.passed
-	@{ rt check bench 2>&1 && touch target/run.passed; } | tee target/run.log | grep --line-buffered '^rt: .* proved (' || true
-	@[ -e target/run.passed ] || { tail -n 20 target/run.log; exit 1; }
-	@echo "examples/start target/bin/bench < examples/ribbing.krec"
-	@examples/start target/bin/bench < examples/ribbing.krec
+	@mkdir -p crates/bench/out && rm -f crates/bench/out/run.passed
+	@{ (cd crates/bench && rt run <../../examples/ribbing.krec 2>&1 >/dev/null) && touch crates/bench/out/run.passed; } | tee crates/bench/out/run.log | grep --line-buffered ': proved$$' || true
+	@[ -e crates/bench/out/run.passed ] || { tail -n 20 crates/bench/out/run.log; exit 1; }
+	@echo "examples/start crates/bench/out/bench < examples/ribbing.krec"
+	@examples/start crates/bench/out/bench < examples/ribbing.krec
 
 test:
 	@bash .ci/run
@@ -21,9 +23,9 @@ test:
 cases:
 	@reference/record
 
-# the archive for C hosts: target/staticlib/libtension_host.a
+# the archive for C hosts: crates/tension_host/out/libtension_host.a
 host:
-	@rt staticlib tension_host
+	@cd crates/tension_host && rt lib
 
 # our speed beside the same algorithm in C, the KMP matcher and the naive one, and on frames beside a plain matcher, as ratios in one run
 compare:
@@ -40,5 +42,5 @@ count:
 install: host
 	install -d "$(DESTDIR)$(PREFIX)/include" "$(DESTDIR)$(PREFIX)/lib/pkgconfig"
 	install -m 644 host/tension.h "$(DESTDIR)$(PREFIX)/include/tension.h"
-	install -m 644 target/staticlib/libtension_host.a "$(DESTDIR)$(PREFIX)/lib/libtension_host.a"
+	install -m 644 $(archive) "$(DESTDIR)$(PREFIX)/lib/libtension_host.a"
 	sed 's,@PREFIX@,$(PREFIX),' host/tension.pc.in > "$(DESTDIR)$(PREFIX)/lib/pkgconfig/tension.pc"

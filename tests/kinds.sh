@@ -55,7 +55,7 @@ for parameter in "${parameters[@]}"; do
 done
 
 said=$(probe "${wrong[@]}" || true)
-told=$(sed -n 's,^.*/probe/src/lib\.rt:\([0-9]*\):[0-9]*: \(error.*\)$,\1 \2,p' <<<"$said" | sort -n |
+told=$(sed -n 's,^src/lib\.rt:\([0-9]*\):[0-9]*: \(error.*\)$,\1 \2,p' <<<"$said" | sort -n |
   while read -r line error; do echo "use_$line, ${wrong[line - 1]-}: $error"; done)
 if ! diff <(printf '%s\n' "${wanted[@]}") <(echo "$told"); then
   echo "the compiler was to tell the mix-ups marked < and told those marked >; its last lines:"

@@ -1,5 +1,5 @@
 #!/usr/bin/env bash
-# `make compare`: all rows, a table of traces, which is drawn in target/compare.svg too, and one of frames.
+# `make compare`: all rows, a table of traces, which is drawn in host/compare/out/compare.svg too, and one of frames.
 set -euo pipefail
 cd "$(dirname "$0")/../.."
 work=$(mktemp -d)
@@ -10,5 +10,6 @@ note=()
 if [ "$native" = no ]; then
   note=(--note "Timed as code for $(uname -m), made of the same module as the archive, which is x86-64 code.")
 fi
-"$work/compare" --svg target/compare.svg "${note[@]}"
-echo "drawn in target/compare.svg"
+mkdir -p host/compare/out
+"$work/compare" --svg host/compare/out/compare.svg "${note[@]}"
+echo "drawn in host/compare/out/compare.svg"
