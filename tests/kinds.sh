@@ -7,16 +7,12 @@ set -euo pipefail
 cd "$(dirname "$0")/.."
 work=$(mktemp -d)
 trap 'rm -rf "$work"' EXIT
-mkdir -p "$work/crates/probe/src" "$work/target/rlib" "$work/target/stamp"
+mkdir -p "$work/crates/probe/src"
 
-# The crates come with what target/ has of them: rt compares the stamps, and proves again only what is new since then.
+# The crates come with what out/ has of them: rt compares the stamps, and proves again only what is new since then.
 for crate in order stitches sizes agreement; do
   grep "^$crate:" crates.txt >>"$work/crates.txt"
   cp -R "crates/$crate" "$work/crates/"
-  if [ -e "target/stamp/$crate" ]; then
-    cp "target/stamp/$crate" "$work/target/stamp/"
-    cp -R "target/rlib/$crate.rlib" "$work/target/rlib/"
-  fi
 done
 echo "probe: order agreement" >>"$work/crates.txt"
 
@@ -29,7 +25,7 @@ probe() {
       "{ let Tested::Failed(_, neighbour) = tested else { return; }; $call; }"
   done >"$work/crates/probe/src/lib.rt"
   printf 'use %s;\n' agreement::agree order::{Offset,Place,Tested,Window,test_place} >>"$work/crates/probe/src/lib.rt"
-  (cd "$work" && rt dev probe 2>&1)
+  (cd "$work/crates/probe" && rt check 2>&1)
 }
 
 # each parameter that has a kind: the kind, and a call with %s in its place
