@@ -4,6 +4,7 @@
 //
 // Buffers hold a guard value before each call. What a call must come to is docs/RULES.md's; a case takes what its call takes, the
 // clearing of its buffers, and a read or a write for each number. The buffers are as large as a case may ask for, 1 MB of stack.
+// The stream is replayed to its end also where a write fails; the program then ends with that error.
 
 #![tactic(auto)]
 
@@ -14,12 +15,14 @@ use agreement::Agreement;
 use input::{read_bytes, read_entries, read_entry, read_length, read_number, read_samples};
 use order::{Counts, Window};
 use output::{
-    GUARD_SAMPLE, GUARD8, GUARD16, GUARD32, number, pair, refusal, show_samples, show_table,
-    show_windows, word,
+    GUARD_SAMPLE, GUARD8, GUARD16, GUARD32, Output, number, pair, refusal, show_samples,
+    show_table, show_windows, word,
 };
 use recording::Reading;
 use report::Reported;
 use search::Searched;
+use std::io;
+use std::io::Stdin;
 use tables::Prepared;
 use words::{smaller, wide32};
 
@@ -39,39 +42,44 @@ const CASES: usize = 1000000;
 
 // ---- preparation
 
-fn show_prepared(answer: Prepared) {
-    word(b"prepare");
+fn show_prepared(out: &mut Output, answer: Prepared) {
+    word(out, b"prepare");
     match answer {
-        Prepared::Done => pair(0, 0),
-        Prepared::Refused(why) => refusal(why),
+        Prepared::Done => pair(out, 0, 0),
+        Prepared::Refused(why) => refusal(out, why),
     }
 }
 
 fn prepare_into(
+    out: &mut Output,
     pattern: &[i32],
     low: &mut [u16],
     high: &mut [u16],
     witness_i: &mut [u16],
     witness_j: &mut [u16],
 ) {
-    show_prepared(tables::prepare(pattern, low, high, witness_i, witness_j));
-    show_table(b"low", low);
-    show_table(b"high", high);
-    show_table(b"wi", witness_i);
-    show_table(b"wj", witness_j);
+    show_prepared(
+        out,
+        tables::prepare(pattern, low, high, witness_i, witness_j),
+    );
+    show_table(out, b"low", low);
+    show_table(out, b"high", high);
+    show_table(out, b"wi", witness_i);
+    show_table(out, b"wj", witness_j);
 }
 
 // Prepares a pattern into tables of the lengths that follow.
-fn prepare_lent(pattern: &[i32]) {
+fn prepare_lent(input: &mut Stdin, out: &mut Output, pattern: &[i32]) {
     let mut low = [GUARD16; TABLE];
     let mut high = [GUARD16; TABLE];
     let mut witness_i = [GUARD16; TABLE];
     let mut witness_j = [GUARD16; TABLE];
-    let a = read_length(2, TABLE);
-    let b = read_length(2, TABLE);
-    let c = read_length(2, TABLE);
-    let d = read_length(2, TABLE);
+    let a = read_length(input, 2, TABLE);
+    let b = read_length(input, 2, TABLE);
+    let c = read_length(input, 2, TABLE);
+    let d = read_length(input, 2, TABLE);
     prepare_into(
+        out,
         pattern,
         &mut low[0..a],
         &mut high[0..b],
@@ -80,29 +88,29 @@ fn prepare_lent(pattern: &[i32]) {
     );
 }
 
-fn replay_prepare() {
+fn replay_prepare(input: &mut Stdin, out: &mut Output) {
     let mut pattern = [0i32; TABLE];
-    let m = read_samples(&mut pattern);
-    prepare_lent(&pattern[0..m]);
+    let m = read_samples(input, &mut pattern);
+    prepare_lent(input, out, &pattern[0..m]);
 }
 
 // ---- search
 
-fn show_counts(c: Counts) {
-    number(0);
-    number(0);
-    number(wide32(c.windows));
-    number(wide32(c.duels));
-    number(wide32(c.survivors));
-    number(wide32(c.sweep));
-    pair(wide32(c.found), wide32(c.struck));
+fn show_counts(out: &mut Output, c: Counts) {
+    number(out, 0);
+    number(out, 0);
+    number(out, wide32(c.windows));
+    number(out, wide32(c.duels));
+    number(out, wide32(c.survivors));
+    number(out, wide32(c.sweep));
+    pair(out, wide32(c.found), wide32(c.struck));
 }
 
-fn show_searched(answer: Searched) {
-    word(b"search");
+fn show_searched(out: &mut Output, answer: Searched) {
+    word(out, b"search");
     match answer {
-        Searched::Done(c) => show_counts(c),
-        Searched::Refused(why) => refusal(why),
+        Searched::Done(c) => show_counts(out, c),
+        Searched::Refused(why) => refusal(out, why),
     }
 }
 
@@ -117,11 +125,17 @@ fn damage(table: &mut [u16], number: usize, meant: usize, entry: usize, value: u
     table[entry] = value;
 }
 
-fn read_damages(low: &mut [u16], high: &mut [u16], witness_i: &mut [u16], witness_j: &mut [u16]) {
-    for _ in 0..read_number(1) {
-        let table = read_number(1);
-        let entry = read_number(2);
-        let value = read_entry();
+fn read_damages(
+    input: &mut Stdin,
+    low: &mut [u16],
+    high: &mut [u16],
+    witness_i: &mut [u16],
+    witness_j: &mut [u16],
+) {
+    for _ in 0..read_number(input, 1) {
+        let table = read_number(input, 1);
+        let entry = read_number(input, 2);
+        let value = read_entry(input);
         damage(low, 1, table, entry, value);
         damage(high, 2, table, entry, value);
         damage(witness_i, 3, table, entry, value);
@@ -130,6 +144,7 @@ fn read_damages(low: &mut [u16], high: &mut [u16], witness_i: &mut [u16], witnes
 }
 
 fn search_into(
+    out: &mut Output,
     pattern: &[i32],
     low: &[u16],
     high: &[u16],
@@ -139,22 +154,34 @@ fn search_into(
     survivors: &mut [u32],
     positions: &mut [u32],
 ) {
-    show_searched(search::search(
-        pattern, low, high, witness_i, witness_j, trace, survivors, positions,
-    ));
-    show_windows(b"survivors", survivors);
-    show_windows(b"positions", positions);
+    show_searched(
+        out,
+        search::search(
+            pattern, low, high, witness_i, witness_j, trace, survivors, positions,
+        ),
+    );
+    show_windows(out, b"survivors", survivors);
+    show_windows(out, b"positions", positions);
 }
 
 // Searches the trace that follows, into buffers of the lengths after it.
-fn search_lent(pattern: &[i32], low: &[u16], high: &[u16], witness_i: &[u16], witness_j: &[u16]) {
+fn search_lent(
+    input: &mut Stdin,
+    out: &mut Output,
+    pattern: &[i32],
+    low: &[u16],
+    high: &[u16],
+    witness_i: &[u16],
+    witness_j: &[u16],
+) {
     let mut trace = [0i32; TRACE];
-    let n = read_samples(&mut trace);
+    let n = read_samples(input, &mut trace);
     let mut survivors = [GUARD32; TRACE];
     let mut positions = [GUARD32; TRACE];
-    let s = read_length(4, TRACE);
-    let r = read_length(4, TRACE);
+    let s = read_length(input, 4, TRACE);
+    let r = read_length(input, 4, TRACE);
     search_into(
+        out,
         pattern,
         low,
         high,
@@ -167,19 +194,21 @@ fn search_lent(pattern: &[i32], low: &[u16], high: &[u16], witness_i: &[u16], wi
 }
 
 // Searches by a pattern's tables, with some entries damaged, at the lengths that come before the damages.
-fn search_by(pattern: &[i32]) {
+fn search_by(input: &mut Stdin, out: &mut Output, pattern: &[i32]) {
     let mut low = [0u16; TABLE];
     let mut high = [0u16; TABLE];
     let mut witness_i = [0u16; TABLE];
     let mut witness_j = [0u16; TABLE];
     tables::prepare(pattern, &mut low, &mut high, &mut witness_i, &mut witness_j);
-    read_number(1);
-    let a = read_length(2, TABLE);
-    let b = read_length(2, TABLE);
-    let c = read_length(2, TABLE);
-    let d = read_length(2, TABLE);
-    read_damages(&mut low, &mut high, &mut witness_i, &mut witness_j);
+    read_number(input, 1);
+    let a = read_length(input, 2, TABLE);
+    let b = read_length(input, 2, TABLE);
+    let c = read_length(input, 2, TABLE);
+    let d = read_length(input, 2, TABLE);
+    read_damages(input, &mut low, &mut high, &mut witness_i, &mut witness_j);
     search_lent(
+        input,
+        out,
         pattern,
         &low[0..a],
         &high[0..b],
@@ -188,128 +217,134 @@ fn search_by(pattern: &[i32]) {
     );
 }
 
-fn replay_search() {
+fn replay_search(input: &mut Stdin, out: &mut Output) {
     let mut pattern = [0i32; TABLE];
-    let m = read_samples(&mut pattern);
-    search_by(&pattern[0..m]);
+    let m = read_samples(input, &mut pattern);
+    search_by(input, out, &pattern[0..m]);
 }
 
 // ---- the call on two windows
 
-fn show_agreement(answer: Agreement) {
-    word(b"agree");
+fn show_agreement(out: &mut Output, answer: Agreement) {
+    word(out, b"agree");
     match answer {
-        Agreement::Agree => pair(0, 1),
-        Agreement::Differ => pair(0, 0),
-        Agreement::Refused(why) => refusal(why),
+        Agreement::Agree => pair(out, 0, 1),
+        Agreement::Differ => pair(out, 0, 0),
+        Agreement::Refused(why) => refusal(out, why),
     }
 }
 
-fn replay_agree() {
+fn replay_agree(input: &mut Stdin, out: &mut Output) {
     let mut witness_i = [0u16; TABLE];
     let mut witness_j = [0u16; TABLE];
-    let m = read_number(4);
-    let i = read_entries(&mut witness_i);
-    let j = read_entries(&mut witness_j);
-    let x = read_number(4);
-    let y = read_number(4);
-    show_agreement(agreement::agree(m, &witness_i[0..i], &witness_j[0..j], Window(x), Window(y)));
+    let m = read_number(input, 4);
+    let i = read_entries(input, &mut witness_i);
+    let j = read_entries(input, &mut witness_j);
+    let x = read_number(input, 4);
+    let y = read_number(input, 4);
+    show_agreement(
+        out,
+        agreement::agree(m, &witness_i[0..i], &witness_j[0..j], Window(x), Window(y)),
+    );
 }
 
 // ---- reading
 
-fn show_reading(answer: Reading) {
-    word(b"read");
+fn show_reading(out: &mut Output, answer: Reading) {
+    word(out, b"read");
     match answer {
         Reading::Done { count, first } => {
-            number(0);
-            number(0);
-            pair(count, first);
+            number(out, 0);
+            number(out, 0);
+            pair(out, count, first);
         }
-        Reading::Refused(why) => refusal(why),
+        Reading::Refused(why) => refusal(out, why),
     }
 }
 
-fn read_into(bytes: &[u8], samples: &mut [i32]) {
-    show_reading(recording::read(bytes, samples));
-    show_samples(b"samples", samples);
+fn read_into(out: &mut Output, bytes: &[u8], samples: &mut [i32]) {
+    show_reading(out, recording::read(bytes, samples));
+    show_samples(out, b"samples", samples);
 }
 
-fn replay_read() {
+fn replay_read(input: &mut Stdin, out: &mut Output) {
     let mut bytes = [0u8; BYTES];
-    let n = read_bytes(&mut bytes);
+    let n = read_bytes(input, &mut bytes);
     let mut samples = [GUARD_SAMPLE; SAMPLES];
-    let r = read_length(4, SAMPLES);
-    read_into(&bytes[0..n], &mut samples[0..r]);
+    let r = read_length(input, 4, SAMPLES);
+    read_into(out, &bytes[0..n], &mut samples[0..r]);
 }
 
 // ---- reports
 
 // Tells of a byte from an index on that should have stayed and did not, by a word that the reference never writes.
-fn show_overwritten(list: &[u8], from: usize) {
+fn show_overwritten(out: &mut Output, list: &[u8], from: usize) {
     for k in from..list.len() {
         if list[k] != GUARD8 {
-            word(b"overwritten\n");
+            word(out, b"overwritten\n");
             return;
         }
     }
 }
 
-fn show_written(text: &[u8], length: usize) {
+fn show_written(out: &mut Output, text: &[u8], length: usize) {
     let n = smaller(length, text.len());
-    word(&text[0..n]);
-    show_overwritten(text, n);
+    word(out, &text[0..n]);
+    show_overwritten(out, text, n);
 }
 
 // A report's length, and then the text, or that the buffer was kept.
-fn show_reported(answer: Reported, text: &[u8]) {
-    word(b"report");
+fn show_reported(out: &mut Output, answer: Reported, text: &[u8]) {
+    word(out, b"report");
     match answer {
         Reported::Written(length) => {
-            number(length);
-            word(b"\n");
-            show_written(text, length);
+            number(out, length);
+            word(out, b"\n");
+            show_written(out, text, length);
         }
         Reported::Short(length) => {
-            number(length);
-            word(b"\nkept\n");
-            show_overwritten(text, 0);
+            number(out, length);
+            word(out, b"\nkept\n");
+            show_overwritten(out, text, 0);
         }
     }
 }
 
-fn report_into(bytes: &[u8], text: &mut [u8]) {
+fn report_into(out: &mut Output, bytes: &[u8], text: &mut [u8]) {
     let answer = report::report(bytes, text);
-    show_reported(answer, text);
+    show_reported(out, answer, text);
 }
 
-fn replay_report() {
+fn replay_report(input: &mut Stdin, out: &mut Output) {
     let mut bytes = [0u8; BYTES];
-    let n = read_bytes(&mut bytes);
+    let n = read_bytes(input, &mut bytes);
     let mut text = [GUARD8; TEXT];
-    let r = read_length(4, TEXT);
-    report_into(&bytes[0..n], &mut text[0..r]);
+    let r = read_length(input, 4, TEXT);
+    report_into(out, &bytes[0..n], &mut text[0..r]);
 }
 
 // ---- the stream
 
 // Replays one case; answers false at the stream's end.
-fn replay_one() -> bool {
-    match read_number(1) {
-        1 => replay_prepare(),
-        2 => replay_search(),
-        3 => replay_agree(),
-        4 => replay_read(),
-        5 => replay_report(),
+fn replay_one(input: &mut Stdin, out: &mut Output) -> bool {
+    match read_number(input, 1) {
+        1 => replay_prepare(input, out),
+        2 => replay_search(input, out),
+        3 => replay_agree(input, out),
+        4 => replay_read(input, out),
+        5 => replay_report(input, out),
         _ => return false,
     }
     true
 }
 
-fn main() {
+fn main(rt: HostRuntime) -> io::Result<()> {
+    let mut input = rt.stdin();
+    let mut out = Output::new(rt);
     for _ in 0..CASES {
-        if !replay_one() {
-            return;
+        if !replay_one(&mut input, &mut out) {
+            break;
         }
     }
+    out.ended()
 }

@@ -4,8 +4,8 @@
 
 ghost use Rattle.std.specs.Prelude.{◌+◌, ◌≤◌, ◌<◌};
 
-use libc::STDOUT_FILENO;
 use order::{Refusal, UNUSED};
+use std::io;
 use words::{wide16, wide32};
 
 // What buffers hold before a call, so that an entry which the call should have kept shows.
@@ -17,36 +17,63 @@ pub(crate) const GUARD32: u32 = 2863311530;
 
 pub(crate) const GUARD_SAMPLE: i32 = -1431655766;
 
-pub(crate) fn word(text: &[u8]) {
-    io::write_all(STDOUT_FILENO, text);
+// Standard output. After a write that failed nothing more is written, and how it failed is kept.
+#[derive(Drop)]
+pub(crate) struct Output {
+    rt: HostRuntime,
+    ended: io::Result<()>,
+}
+
+impl Output {
+    pub(crate) fn new(rt: HostRuntime) -> Output {
+        Output { rt, ended: Ok(()) }
+    }
+
+    // The first failure of a write, if there was one.
+    pub(crate) fn ended(self) -> io::Result<()> {
+        self.ended
+    }
+}
+
+pub(crate) fn word(out: &mut Output, text: &[u8]) {
+    if out.ended.is_ok() {
+        out.ended = out.rt.write_all(text);
+    }
+}
+
+// A number, without a space.
+fn decimal(out: &mut Output, n: u64) {
+    if out.ended.is_ok() {
+        out.ended = out.rt.print(n);
+    }
 }
 
 // A space and a number.
-pub(crate) fn number(n: usize) {
-    word(b" ");
-    io::print_decimal(STDOUT_FILENO, n as u64);
+pub(crate) fn number(out: &mut Output, n: usize) {
+    word(out, b" ");
+    decimal(out, n as u64);
 }
 
 // A line's last two numbers.
-pub(crate) fn pair(a: usize, b: usize) {
-    number(a);
-    number(b);
-    word(b"\n");
+pub(crate) fn pair(out: &mut Output, a: usize, b: usize) {
+    number(out, a);
+    number(out, b);
+    word(out, b"\n");
 }
 
 // A refusal's number and place.
-pub(crate) fn refusal(why: Refusal) {
-    pair(why.number(), why.place());
+pub(crate) fn refusal(out: &mut Output, why: Refusal) {
+    pair(out, why.number(), why.place());
 }
 
 // A space and a sample, with its sign.
-fn integer(x: i32) {
+fn integer(out: &mut Output, x: i32) {
     if x < 0 {
-        word(b" -");
-        io::print_decimal(STDOUT_FILENO, magnitude(!x) + 1);
+        word(out, b" -");
+        decimal(out, magnitude(!x) + 1);
         return;
     }
-    number(magnitude(x) as usize);
+    number(out, magnitude(x) as usize);
 }
 
 // A sample that is not below 0.
@@ -74,18 +101,18 @@ struct Run {
 }
 
 // Tells a run that has ended.
-fn tell(run: Run) {
+fn tell(out: &mut Output, run: Run) {
     if run.mark == PLAIN {
         return;
     }
-    word(b" ");
+    word(out, b" ");
     let mark = [run.mark];
-    word(&mark);
-    io::print_decimal(STDOUT_FILENO, run.length as u64);
+    word(out, &mark);
+    decimal(out, run.length as u64);
 }
 
 // The run after one more entry; where it has another mark, the run before is told.
-fn go_on(run: Run, mark: u8) -> Run
+fn go_on(out: &mut Output, run: Run, mark: u8) -> Run
     requires { run.length < 18446744073709551615 }
     ensures { result.length ≤ run.length + 1 }
 {
@@ -95,89 +122,89 @@ fn go_on(run: Run, mark: u8) -> Run
             length: run.length + 1,
         };
     }
-    tell(run);
+    tell(out, run);
     Run { mark, length: 1 }
 }
 
-fn end_line(run: Run) {
-    tell(run);
-    word(b"\n");
+fn end_line(out: &mut Output, run: Run) {
+    tell(out, run);
+    word(out, b"\n");
 }
 
-fn tell_entry(run: Run, entry: u16) -> Run
+fn tell_entry(out: &mut Output, run: Run, entry: u16) -> Run
     requires { run.length < 18446744073709551615 }
     ensures { result.length ≤ run.length + 1 }
 {
     if entry == GUARD16 {
-        return go_on(run, GUARD);
+        return go_on(out, run, GUARD);
     }
-    let next = go_on(run, PLAIN);
-    number(wide16(entry));
+    let next = go_on(out, run, PLAIN);
+    number(out, wide16(entry));
     next
 }
 
-fn tell_sample(run: Run, x: i32) -> Run
+fn tell_sample(out: &mut Output, run: Run, x: i32) -> Run
     requires { run.length < 18446744073709551615 }
     ensures { result.length ≤ run.length + 1 }
 {
     if x == GUARD_SAMPLE {
-        return go_on(run, GUARD);
+        return go_on(out, run, GUARD);
     }
-    let next = go_on(run, PLAIN);
-    integer(x);
+    let next = go_on(out, run, PLAIN);
+    integer(out, x);
     next
 }
 
-fn tell_window(run: Run, x: u32) -> Run
+fn tell_window(out: &mut Output, run: Run, x: u32) -> Run
     requires { run.length < 18446744073709551615 }
     ensures { result.length ≤ run.length + 1 }
 {
     if x == GUARD32 {
-        return go_on(run, GUARD);
+        return go_on(out, run, GUARD);
     }
     if x == UNUSED {
-        return go_on(run, NOTHING);
+        return go_on(out, run, NOTHING);
     }
-    let next = go_on(run, PLAIN);
-    number(wide32(x));
+    let next = go_on(out, run, PLAIN);
+    number(out, wide32(x));
     next
 }
 
 // A table on a line of its own: its name and its entries.
-pub(crate) fn show_table(name: &[u8], table: &[u16]) {
-    word(name);
+pub(crate) fn show_table(out: &mut Output, name: &[u8], table: &[u16]) {
+    word(out, name);
     let mut run = Run {
         mark: PLAIN,
         length: 0,
     };
     for k in 0..table.len() {
-        run = tell_entry(run, table[k]);
+        run = tell_entry(out, run, table[k]);
     }
-    end_line(run);
+    end_line(out, run);
 }
 
 // A list of samples.
-pub(crate) fn show_samples(name: &[u8], list: &[i32]) {
-    word(name);
+pub(crate) fn show_samples(out: &mut Output, name: &[u8], list: &[i32]) {
+    word(out, name);
     let mut run = Run {
         mark: PLAIN,
         length: 0,
     };
     for k in 0..list.len() {
-        run = tell_sample(run, list[k]);
+        run = tell_sample(out, run, list[k]);
     }
-    end_line(run);
+    end_line(out, run);
 }
 
 // A list of windows.
-pub(crate) fn show_windows(name: &[u8], list: &[u32]) {
-    word(name);
+pub(crate) fn show_windows(out: &mut Output, name: &[u8], list: &[u32]) {
+    word(out, name);
     let mut run = Run {
         mark: PLAIN,
         length: 0,
     };
     for k in 0..list.len() {
-        run = tell_window(run, list[k]);
+        run = tell_window(out, run, list[k]);
     }
-    end_line(run);
+    end_line(out, run);
 }
