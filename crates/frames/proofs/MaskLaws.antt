@@ -16,7 +16,7 @@ use borrow.Author.Tests.{eqb-true, eqb-false}
 use mir.Val.{bool_byte}
 use Rattle.order.specs.Isomorphic.{all_below}
 use Rattle.order.proofs.Tests.{clash, must_fail, and_both, and_first, and_second}
-use Rattle.order.proofs.Isomorphisms.{all_pass, pass_each}
+use Rattle.order.proofs.Isomorphisms.{pass_each}
 use Rattle.frames.specs.Inside.{nowhere, step_test, step_passes_lem, pass_below, all_places_pass, StepWithin, Within, AllStand, Counted, Narrowed, Stands, Looked, BlockTested, RestTested, KnownBelow}
 use Rattle.frames.proofs.StepLaws.{one_near, high_near, low_near, both_near}
 

@@ -17,7 +17,7 @@ use Rattle.order.specs.Relations.{rel}
 use Rattle.order.specs.PlaceTest.{test_of, cost}
 use Rattle.order.specs.EntryTest.{test_by}
 use Rattle.order.specs.Duels.{survivors}
-use Rattle.order.specs.Sweeping.{Swept, swept, tests, sweep_all_lem, tests_of, swept_by, sweep_cost, positions}
+use Rattle.order.specs.Sweeping.{Swept, swept, sweep_all_lem, tests_of, swept_by, sweep_cost, positions}
 use Rattle.order.specs.declared.refusal.Refusal.{Refusal}
 use Rattle.order.specs.Refusals.{accepted}
 use Rattle.order.specs.Written.{over, after_verdict}

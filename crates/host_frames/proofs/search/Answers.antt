@@ -1,6 +1,5 @@
 -- `search` meets its contract: a refusal stores nothing, and an answer both numbers.
 use Rattle.host_frames.proofs.HandedOn.{frame_refused, frame-done}
-use borrow.Author.Rules.{rules}
 use Rattle.host_frames.proofs.search.Goals as goal
 
 pub returns-in-Refused : goal.returns-in-Refused

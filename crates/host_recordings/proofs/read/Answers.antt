@@ -1,6 +1,5 @@
 -- `read` meets its contract: a refusal stores nothing, and an answer both numbers.
 use Rattle.host_recordings.proofs.HandedOver.{read_refused, read_done}
-use borrow.Author.Rules.{rules}
 use Rattle.host_recordings.proofs.read.Goals as goal
 
 pub returns-in-Refused : goal.returns-in-Refused

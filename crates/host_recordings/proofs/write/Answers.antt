@@ -1,6 +1,5 @@
 -- `write` meets its contract: a refusal stores nothing, and an answer the new length.
 use Rattle.host_recordings.proofs.HandedOver.{write_refused, write_done}
-use borrow.Author.Rules.{rules}
 use Rattle.host_recordings.proofs.write.Goals as goal
 
 pub returns-in-Refused : goal.returns-in-Refused

@@ -1,11 +1,8 @@
 -- The goals of `look` that the check leaves.
-use Prim.Native.Nat.{◌-◌, ◌≤◌}
-use mathlib.Core.Path.{◌≡◌, refl}
+use mathlib.Core.Path.{refl}
 use native.Mathlib.Omega.{arith}
-use lib.ListN.{length}
-use Rattle.frames.specs.Inside.{step_passes_lem, Looked}
+use Rattle.frames.specs.Inside.{step_passes_lem}
 use Rattle.frames.proofs.MaskLaws.{looked_more}
-use borrow.Author.Rules.{rules}
 use Rattle.frames.proofs.blocks.look.Goals as goal
 
 pub loop-done-init : goal.loop-done-init

@@ -1,11 +1,8 @@
 -- `look` meets its contract. The loop's invariant: what is known of the mask after the places passed. The measure is the places left.
 use Prim.Native.Nat.{◌-◌, ◌≤◌}
-use mathlib.Core.Path.{◌≡◌, refl}
-use native.Mathlib.Omega.{arith}
+use mathlib.Core.Path.{◌≡◌}
 use lib.ListN.{length}
-use Rattle.frames.specs.Inside.{step_passes_lem, Looked}
-use Rattle.frames.proofs.MaskLaws.{looked_more}
-use borrow.Author.Rules.{rules}
+use Rattle.frames.specs.Inside.{Looked}
 use Rattle.frames.proofs.blocks.look.Given as goal
 
 abbrev pub invariant-loop-done : goal.invariant-loop-done

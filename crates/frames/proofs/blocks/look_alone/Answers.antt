@@ -1,10 +1,8 @@
 -- The goals of `look_alone` that the check leaves.
-use Prim.Native.Nat.{◌-◌, ◌≤◌}
-use mathlib.Core.Path.{◌≡◌, refl}
+use mathlib.Core.Path.{refl}
 use native.Mathlib.Omega.{arith}
-use lib.ListN.{length}
 use Rattle.frames.proofs.OffsetLaws.{within-part}
-use Rattle.frames.proofs.MaskLaws.{count_fits, Alone, alone_none, alone_more, alone_all}
+use Rattle.frames.proofs.MaskLaws.{count_fits, alone_none, alone_more, alone_all}
 use borrow.Author.Rules.{rules}
 use Rattle.frames.proofs.blocks.look_alone.Goals as goal
 

@@ -1,11 +1,8 @@
 -- `look_alone` meets its contract. The loop's invariant: the columns passed are through, with their number. The measure is the columns left.
 use Prim.Native.Nat.{◌-◌, ◌≤◌}
-use mathlib.Core.Path.{◌≡◌, refl}
-use native.Mathlib.Omega.{arith}
+use mathlib.Core.Path.{◌≡◌}
 use lib.ListN.{length}
-use Rattle.frames.proofs.OffsetLaws.{within-part}
-use Rattle.frames.proofs.MaskLaws.{count_fits, Alone, alone_none, alone_more, alone_all}
-use borrow.Author.Rules.{rules}
+use Rattle.frames.proofs.MaskLaws.{Alone}
 use Rattle.frames.proofs.blocks.look_alone.Given as goal
 
 abbrev pub invariant-loop-i : goal.invariant-loop-i

@@ -1,11 +1,8 @@
 -- The goals of `look_late` that the check leaves.
-use Prim.Native.Nat.{◌≤◌}
-use mathlib.Core.Path.{◌≡◌, refl}
+use mathlib.Core.Path.{refl}
 use native.Mathlib.Omega.{arith}
-use lib.ListN.{length}
-use Rattle.frames.specs.Inside.{step_passes_lem, Looked}
+use Rattle.frames.specs.Inside.{step_passes_lem}
 use Rattle.frames.proofs.MaskLaws.{looked_late}
-use borrow.Author.Rules.{rules}
 use Rattle.frames.proofs.blocks.look_late.Goals as goal
 
 pub loop-j-init : goal.loop-j-init

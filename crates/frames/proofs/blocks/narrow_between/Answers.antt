@@ -1,11 +1,11 @@
 -- The goals of `narrow_between` that the check leaves.
-use Prim.Native.Nat.{◌+◌, ◌-◌, ◌≤◌}
+use Prim.Native.Nat.{◌+◌}
 use mathlib.Core.Path.{refl}
 use mathlib.Core.Bool.{false, ◌&&◌}
 use native.Mathlib.Omega.{arith}
 use lib.Dec.{ltb}
-use lib.ListN.{length, get_or}
-use Rattle.frames.proofs.MaskLaws.{Thinned, count_fits, thinned_none, thinned_more, thinned_all}
+use lib.ListN.{get_or}
+use Rattle.frames.proofs.MaskLaws.{count_fits, thinned_none, thinned_more, thinned_all}
 use borrow.Author.Rules.{rules}
 use Rattle.frames.proofs.blocks.narrow_between.Goals as goal
 

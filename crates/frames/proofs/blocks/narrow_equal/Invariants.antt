@@ -1,12 +1,8 @@
 -- `narrow_equal` meets its contract. The loop's invariant: the entries passed are thinned out, with their number. The measure is the entries left.
 use Prim.Native.Nat.{◌+◌, ◌-◌, ◌≤◌}
-use mathlib.Core.Path.{refl}
-use mathlib.Core.Bool.{false, ◌&&◌}
-use native.Mathlib.Omega.{arith}
 use lib.Dec.{eqb}
 use lib.ListN.{length, get_or}
-use Rattle.frames.proofs.MaskLaws.{Thinned, count_fits, thinned_none, thinned_more, thinned_all}
-use borrow.Author.Rules.{rules}
+use Rattle.frames.proofs.MaskLaws.{Thinned}
 use Rattle.frames.proofs.blocks.narrow_equal.Given as goal
 
 abbrev pub invariant-loop-i : goal.invariant-loop-i

@@ -2,7 +2,6 @@
 use native.Mathlib.Omega.{arith}
 use Rattle.frames.proofs.OffsetLaws.{within_same}
 use Rattle.frames.proofs.MaskLaws.{nowhere-told, all_told}
-use borrow.Author.Rules.{rules}
 use Rattle.frames.proofs.blocks.test_block.Goals as goal
 
 pub look_late-late-requires : goal.look_late-late-requires

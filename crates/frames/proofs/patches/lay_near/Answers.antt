@@ -1,10 +1,8 @@
 -- The goals of `lay_near` that the check leaves.
-use Prim.Native.Nat.{◌-◌, ◌≤◌}
 use native.Mathlib.Nat.{le_antisymm}
 use native.Mathlib.Omega.{arith}
-use lib.ListN.{length, get_or}
-use Rattle.order.proofs.Filling.{Filled, filled_none, filled_more, filled_all}
-use Rattle.frames.specs.Inside.{near_of, near_offsets}
+use Rattle.order.proofs.Filling.{filled_none, filled_more, filled_all}
+use Rattle.frames.specs.Inside.{near_offsets}
 use borrow.Author.Rules.{rules}
 use Rattle.frames.proofs.patches.lay_near.Goals as goal
 

@@ -1,11 +1,8 @@
 -- `lay_near` meets its contract. The loop's invariant: the places passed have their neighbours' offsets. The measure is the places left.
 use Prim.Native.Nat.{◌-◌, ◌≤◌}
-use native.Mathlib.Nat.{le_antisymm}
-use native.Mathlib.Omega.{arith}
 use lib.ListN.{length, get_or}
-use Rattle.order.proofs.Filling.{Filled, filled_none, filled_more, filled_all}
-use Rattle.frames.specs.Inside.{near_of, near_offsets}
-use borrow.Author.Rules.{rules}
+use Rattle.order.proofs.Filling.{Filled}
+use Rattle.frames.specs.Inside.{near_of}
 use Rattle.frames.proofs.patches.lay_near.Given as goal
 
 abbrev pub invariant-loop-j : goal.invariant-loop-j

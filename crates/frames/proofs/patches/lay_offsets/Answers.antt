@@ -1,10 +1,9 @@
 -- The goals of `lay_offsets` that the check leaves.
-use Prim.Native.Nat.{◌-◌, ◌≤◌}
 use native.Mathlib.Nat.{le_antisymm}
 use native.Mathlib.Omega.{arith}
-use Rattle.order.proofs.Filling.{Filled, filled_none, filled_more, filled_all}
-use Rattle.frames.specs.Inside.{offset_of, offsets_of}
-use Rattle.frames.proofs.OffsetLaws.{Corner, first_corner, turn-fits, corner_turned, offset_there, next_corner, offset_fits}
+use Rattle.order.proofs.Filling.{filled_none, filled_more, filled_all}
+use Rattle.frames.specs.Inside.{offsets_of}
+use Rattle.frames.proofs.OffsetLaws.{first_corner, turn-fits, corner_turned, offset_there, next_corner, offset_fits}
 use borrow.Author.Rules.{rules}
 use Rattle.frames.proofs.patches.lay_offsets.Goals as goal
 

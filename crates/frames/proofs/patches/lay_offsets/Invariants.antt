@@ -1,12 +1,9 @@
 -- `lay_offsets` meets its contract. The loop's invariant: the places passed have their offsets, and where the next one lies is known. The
 -- measure is the places left.
 use Prim.Native.Nat.{◌-◌, ◌≤◌}
-use native.Mathlib.Nat.{le_antisymm}
-use native.Mathlib.Omega.{arith}
-use Rattle.order.proofs.Filling.{Filled, filled_none, filled_more, filled_all}
-use Rattle.frames.specs.Inside.{offset_of, offsets_of}
-use Rattle.frames.proofs.OffsetLaws.{Corner, first_corner, turn-fits, corner_turned, offset_there, next_corner, offset_fits}
-use borrow.Author.Rules.{rules}
+use Rattle.order.proofs.Filling.{Filled}
+use Rattle.frames.specs.Inside.{offset_of}
+use Rattle.frames.proofs.OffsetLaws.{Corner}
 use Rattle.frames.proofs.patches.lay_offsets.Given as goal
 
 abbrev pub invariant-loop-j : goal.invariant-loop-j

@@ -1,6 +1,5 @@
 -- `near_offset` meets its contract.
 use Rattle.frames.proofs.StepLaws.{near_read, near_past, near_own}
-use borrow.Author.Rules.{rules}
 use Rattle.frames.proofs.patches.near_offset.Goals as goal
 
 pub returns-then-i-offsets : goal.returns-then-i-offsets

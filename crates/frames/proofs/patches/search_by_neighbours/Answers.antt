@@ -1,7 +1,6 @@
 -- `search_by_neighbours` meets its contract: the places' offsets, laid row by row, lie inside the frame.
 use native.Mathlib.Omega.{arith}
 use Rattle.frames.proofs.OffsetLaws.{last_fits, offsets_inside, offsets_laid, rows_by_offsets}
-use borrow.Author.Rules.{rules}
 use Rattle.frames.proofs.patches.search_by_neighbours.Goals as goal
 
 pub lay_offsets-requires : goal.lay_offsets-requires

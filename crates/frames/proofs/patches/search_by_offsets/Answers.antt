@@ -1,6 +1,5 @@
 -- `search_by_offsets` meets its contract: the neighbours' offsets, laid by the tables, are those that the search asks for.
 use Rattle.frames.proofs.OffsetLaws.{grid_laid, rows_laid}
-use borrow.Author.Rules.{rules}
 use Rattle.frames.proofs.patches.search_by_offsets.Goals as goal
 
 pub search_rows-requires : goal.search_rows-requires

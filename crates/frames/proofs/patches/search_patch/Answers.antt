@@ -1,7 +1,6 @@
 -- `search_patch` meets its contract: the neighbours that are written are those of the patch's own levels.
 use native.Mathlib.Omega.{arith}
 use Rattle.frames.proofs.PatchLaws.{patch_found}
-use borrow.Author.Rules.{rules}
 use Rattle.frames.proofs.patches.search_patch.Goals as goal
 
 pub returns : goal.returns

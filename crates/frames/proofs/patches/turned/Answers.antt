@@ -1,5 +1,4 @@
 -- `turned` meets its contract.
-use borrow.Author.Rules.{rules}
 use Rattle.frames.proofs.patches.turned.Goals as goal
 
 pub overflow_add-result : goal.overflow_add-result

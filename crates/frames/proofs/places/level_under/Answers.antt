@@ -1,6 +1,5 @@
 -- `level_under` meets its contract.
 use Rattle.frames.proofs.StepLaws.{not_moved}
-use borrow.Author.Rules.{rules}
 use Rattle.frames.proofs.places.level_under.Goals as goal
 
 pub returns : goal.returns

@@ -1,12 +1,6 @@
 -- The goals of `rest_passes` that the check leaves.
-use Prim.Native.Nat.{◌-◌, ◌≤◌}
-use mathlib.Core.Path.{◌≡◌}
-use mathlib.Core.Bool.{true}
 use native.Mathlib.Omega.{arith}
-use lib.ListN.{length}
-use Rattle.frames.specs.Inside.{pass_below}
 use Rattle.frames.proofs.MaskLaws.{step-told, rest_done, rest_failed, rest_more}
-use borrow.Author.Rules.{rules}
 use Rattle.frames.proofs.places.rest_passes.Goals as goal
 
 pub loop-j-init : goal.loop-j-init

@@ -3,11 +3,8 @@
 use Prim.Native.Nat.{◌-◌, ◌≤◌}
 use mathlib.Core.Path.{◌≡◌}
 use mathlib.Core.Bool.{true}
-use native.Mathlib.Omega.{arith}
 use lib.ListN.{length}
 use Rattle.frames.specs.Inside.{pass_below}
-use Rattle.frames.proofs.MaskLaws.{step-told, rest_done, rest_failed, rest_more}
-use borrow.Author.Rules.{rules}
 use Rattle.frames.proofs.places.rest_passes.Given as goal
 
 abbrev pub invariant-loop-j : goal.invariant-loop-j

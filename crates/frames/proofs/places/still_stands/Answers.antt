@@ -1,7 +1,6 @@
 -- `still_stands` meets its contract: what is told of the frame from the start on is told of the frame there.
 use mathlib.Core.Path.{sym}
 use Rattle.frames.proofs.MaskLaws.{stands_on, within_there, rest_there}
-use borrow.Author.Rules.{rules}
 use Rattle.frames.proofs.places.still_stands.Goals as goal
 
 pub rest_passes-requires : goal.rest_passes-requires

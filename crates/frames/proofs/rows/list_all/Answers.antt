@@ -1,11 +1,7 @@
 -- The goals of `list_all` that the check leaves.
-use Prim.Native.Nat.{◌+◌, ◌-◌, ◌≤◌}
-use mathlib.Core.Path.{◌≡◌, refl}
-use mathlib.Core.Bool.{true}
+use mathlib.Core.Path.{refl}
 use native.Mathlib.Nat.{le_antisymm}
 use native.Mathlib.Omega.{arith}
-use lib.ListN.{length}
-use Rattle.frames.specs.Inside.{Listed}
 use Rattle.frames.proofs.ListingLaws.{listed-first, listed_one, listed-whole}
 use borrow.Author.Rules.{rules}
 use Rattle.frames.proofs.rows.list_all.Goals as goal

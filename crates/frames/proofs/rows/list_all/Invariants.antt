@@ -1,13 +1,9 @@
 -- `list_all` meets its contract. The loop's invariant: the columns passed are listed. The measure is the columns left.
 use Prim.Native.Nat.{◌+◌, ◌-◌, ◌≤◌}
-use mathlib.Core.Path.{◌≡◌, refl}
+use mathlib.Core.Path.{◌≡◌}
 use mathlib.Core.Bool.{true}
-use native.Mathlib.Nat.{le_antisymm}
-use native.Mathlib.Omega.{arith}
 use lib.ListN.{length}
 use Rattle.frames.specs.Inside.{Listed}
-use Rattle.frames.proofs.ListingLaws.{listed-first, listed_one, listed-whole}
-use borrow.Author.Rules.{rules}
 use Rattle.frames.proofs.rows.list_all.Given as goal
 
 abbrev pub invariant-loop-i : goal.invariant-loop-i

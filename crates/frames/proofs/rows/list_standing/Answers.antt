@@ -1,11 +1,9 @@
 -- The goals of `list_standing` that the check leaves.
-use Prim.Native.Nat.{◌-◌, ◌≤◌}
-use mathlib.Core.Path.{◌≡◌, refl}
+use mathlib.Core.Path.{refl}
 use mathlib.Core.Bool.{false}
 use native.Mathlib.Nat.{le_antisymm}
 use native.Mathlib.Omega.{arith}
-use lib.ListN.{length, get_or}
-use Rattle.frames.specs.Inside.{Listed}
+use lib.ListN.{get_or}
 use Rattle.frames.proofs.MaskLaws.{at_most_one}
 use Rattle.frames.proofs.ListingLaws.{listed_none, listed_more, listed_all}
 use borrow.Author.Rules.{rules}

@@ -1,14 +1,9 @@
 -- `list_standing` meets its contract. The loop's invariant: the columns passed are listed. The measure is the columns left.
 use Prim.Native.Nat.{◌-◌, ◌≤◌}
-use mathlib.Core.Path.{◌≡◌, refl}
+use mathlib.Core.Path.{◌≡◌}
 use mathlib.Core.Bool.{false}
-use native.Mathlib.Nat.{le_antisymm}
-use native.Mathlib.Omega.{arith}
 use lib.ListN.{length, get_or}
 use Rattle.frames.specs.Inside.{Listed}
-use Rattle.frames.proofs.MaskLaws.{at_most_one}
-use Rattle.frames.proofs.ListingLaws.{listed_none, listed_more, listed_all}
-use borrow.Author.Rules.{rules}
 use Rattle.frames.proofs.rows.list_standing.Given as goal
 
 abbrev pub invariant-loop-i : goal.invariant-loop-i

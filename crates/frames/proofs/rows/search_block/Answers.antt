@@ -3,7 +3,6 @@ use mathlib.Core.Path.{refl}
 use native.Mathlib.Omega.{arith}
 use Rattle.frames.proofs.OffsetLaws.{within_same}
 use Rattle.frames.proofs.ListingLaws.{listed_all, block-part}
-use borrow.Author.Rules.{rules}
 use Rattle.frames.proofs.rows.search_block.Goals as goal
 
 pub search_masked-requires : goal.search_masked-requires

@@ -4,7 +4,6 @@ use native.Mathlib.Omega.{arith}
 use Rattle.frames.proofs.OffsetLaws.{within_same}
 use Rattle.frames.proofs.MaskLaws.{looked_at_nothing}
 use Rattle.frames.proofs.ListingLaws.{listed_all, listed_same, listed-nowhere}
-use borrow.Author.Rules.{rules}
 use Rattle.frames.proofs.rows.search_masked.Goals as goal
 
 pub test_block-standing-requires : goal.test_block-standing-requires

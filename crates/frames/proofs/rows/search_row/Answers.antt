@@ -1,13 +1,9 @@
 -- The goals of `search_row` that the check leaves.
-use Prim.Native.Nat.{◌+◌, ◌-◌, ◌≤◌}
-use mathlib.Core.Path.{◌≡◌, refl}
+use mathlib.Core.Path.{refl}
 use native.Mathlib.Nat.{le_antisymm}
 use native.Mathlib.Omega.{arith}
-use lib.ListN.{length}
-use Rattle.frames.specs.Inside.{all_places_pass, Listed}
 use Rattle.frames.proofs.OffsetLaws.{within-part}
 use Rattle.frames.proofs.ListingLaws.{listed_none, listed_all, block_then}
-use borrow.Author.Rules.{rules}
 use Rattle.frames.proofs.rows.search_row.Goals as goal
 
 pub loop-c-init : goal.loop-c-init

@@ -1,13 +1,8 @@
 -- `search_row` meets its contract. The loop's invariant: the columns passed are listed. The measure is the columns left.
 use Prim.Native.Nat.{◌+◌, ◌-◌, ◌≤◌}
-use mathlib.Core.Path.{◌≡◌, refl}
-use native.Mathlib.Nat.{le_antisymm}
-use native.Mathlib.Omega.{arith}
+use mathlib.Core.Path.{◌≡◌}
 use lib.ListN.{length}
 use Rattle.frames.specs.Inside.{all_places_pass, Listed}
-use Rattle.frames.proofs.OffsetLaws.{within-part}
-use Rattle.frames.proofs.ListingLaws.{listed_none, listed_all, block_then}
-use borrow.Author.Rules.{rules}
 use Rattle.frames.proofs.rows.search_row.Given as goal
 
 abbrev pub invariant-loop-c : goal.invariant-loop-c

@@ -1,10 +1,7 @@
 -- The goals of `search_rows` that the check leaves.
-use Prim.Native.Nat.{◌+◌, ◌-◌, ◌*◌, ◌≤◌}
-use mathlib.Core.Path.{◌≡◌, refl}
+use mathlib.Core.Path.{refl}
 use native.Mathlib.Nat.{le_antisymm}
 use native.Mathlib.Omega.{arith}
-use lib.ListN.{length}
-use Rattle.frames.specs.Inside.{all_places_pass, RowsListed}
 use Rattle.frames.proofs.ListingLaws.{rows_none, rows_more, rows_all, row_room, base_fits}
 use borrow.Author.Rules.{rules}
 use Rattle.frames.proofs.rows.search_rows.Goals as goal

@@ -1,12 +1,8 @@
 -- `search_rows` meets its contract. The loop's invariant: the places of the rows passed are listed. The measure is the rows left.
 use Prim.Native.Nat.{◌+◌, ◌-◌, ◌*◌, ◌≤◌}
-use mathlib.Core.Path.{◌≡◌, refl}
-use native.Mathlib.Nat.{le_antisymm}
-use native.Mathlib.Omega.{arith}
+use mathlib.Core.Path.{◌≡◌}
 use lib.ListN.{length}
 use Rattle.frames.specs.Inside.{all_places_pass, RowsListed}
-use Rattle.frames.proofs.ListingLaws.{rows_none, rows_more, rows_all, row_room, base_fits}
-use borrow.Author.Rules.{rules}
 use Rattle.frames.proofs.rows.search_rows.Given as goal
 
 abbrev pub invariant-loop-row : goal.invariant-loop-row

@@ -1,8 +1,6 @@
 -- The goals of `stand_all` that the check leaves.
-use Prim.Native.Nat.{◌-◌, ◌≤◌}
 use native.Mathlib.Omega.{arith}
-use lib.ListN.{length}
-use Rattle.frames.proofs.MaskLaws.{StandTo, stand_none, stand_more, stand_all_lem}
+use Rattle.frames.proofs.MaskLaws.{stand_none, stand_more, stand_all_lem}
 use borrow.Author.Rules.{rules}
 use Rattle.frames.proofs.rows.stand_all.Goals as goal
 

@@ -1,9 +1,7 @@
 -- `stand_all` meets its contract. The loop's invariant: the entries passed stand. The measure is the entries left.
 use Prim.Native.Nat.{◌-◌, ◌≤◌}
-use native.Mathlib.Omega.{arith}
 use lib.ListN.{length}
-use Rattle.frames.proofs.MaskLaws.{StandTo, stand_none, stand_more, stand_all_lem}
-use borrow.Author.Rules.{rules}
+use Rattle.frames.proofs.MaskLaws.{StandTo}
 use Rattle.frames.proofs.rows.stand_all.Given as goal
 
 abbrev pub invariant-loop-i : goal.invariant-loop-i

@@ -3,7 +3,6 @@ use mathlib.Core.Path.{refl}
 use mathlib.Core.Logic.{inl, inr}
 use Rattle.frames.proofs.ListingLaws.{nothing-listed}
 use Rattle.frames.proofs.FrameLaws.{inside_of}
-use borrow.Author.Rules.{rules}
 use Rattle.frames.proofs.searching.list_places.Goals as goal
 
 pub returns-then-rows-eq0 : goal.returns-then-rows-eq0

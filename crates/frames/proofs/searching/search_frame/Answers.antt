@@ -3,7 +3,6 @@ use mathlib.Core.Path.{sym, ◌∙◌}
 use native.Mathlib.Omega.{arith}
 use Rattle.frame_sizes.proofs.FrameRows.{at_accepted, tries_refused, sizes_fit, places-are, places_fit}
 use Rattle.frames.proofs.FrameLaws.{frame_refused, frame-done}
-use borrow.Author.Rules.{rules}
 use Rattle.frames.proofs.searching.search_frame.Goals as goal
 
 pub write_places-found-requires : goal.write_places-found-requires

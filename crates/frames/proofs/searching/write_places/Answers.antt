@@ -3,7 +3,6 @@ use native.Mathlib.Omega.{arith}
 use Rattle.lists.proofs.FilledUp.{part_filled}
 use Rattle.frame_sizes.proofs.FrameRows.{places_fit}
 use Rattle.frames.proofs.FrameLaws.{places-written}
-use borrow.Author.Rules.{rules}
 use Rattle.frames.proofs.searching.write_places.Goals as goal
 
 pub overflow_mul-places : goal.overflow_mul-places

@@ -1,6 +1,5 @@
 -- `put_answer` meets its contract: a refusal writes nothing, and an answer all three buffers.
 use Rattle.host_answers.proofs.HandedOut.{put-done, put_refused}
-use borrow.Author.Rules.{rules}
 use Rattle.host_answers.proofs.answering.put_answer.Goals as goal
 
 pub returns-in-Refused : goal.returns-in-Refused

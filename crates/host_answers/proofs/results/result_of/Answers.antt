@@ -1,7 +1,6 @@
 -- `result_of` meets its contract.
 use native.Mathlib.Omega.{arith}
 use Rattle.host_answers.proofs.Numbers.{number_range, result_made}
-use borrow.Author.Rules.{rules}
 use Rattle.host_answers.proofs.results.result_of.Goals as goal
 
 pub overflow_mul-result : goal.overflow_mul-result

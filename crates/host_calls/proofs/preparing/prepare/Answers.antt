@@ -3,7 +3,6 @@ use mathlib.Core.Path.{sym, ◌∙◌}
 use Rattle.sizes.proofs.Verdicts.{fine_accepted, pattern_passed}
 use Rattle.order.specs.Refusals.{accepted}
 use Rattle.host_calls.proofs.PrepareLaws.{prepare_unfit}
-use borrow.Author.Rules.{rules}
 use Rattle.host_calls.proofs.preparing.prepare.Goals as goal
 
 pub prepare_bytes-requires : goal.prepare_bytes-requires

@@ -1,7 +1,6 @@
 -- `prepare_bytes` meets its contract: the pattern's samples are converted, and prepared.
 use native.Mathlib.Nat.{sub-zero}
 use Rattle.host_calls.proofs.PrepareLaws.{samples-prepared}
-use borrow.Author.Rules.{rules}
 use Rattle.host_calls.proofs.preparing.prepare_bytes.Goals as goal
 
 pub returns : goal.returns

@@ -1,7 +1,6 @@
 -- `prepare_samples` meets its contract: refused before anything is written, or the tables.
 use mathlib.Core.Path.{sym, ◌∙◌}
 use Rattle.host_calls.proofs.PrepareLaws.{fine_fits, prepare_refused, prepare_put}
-use borrow.Author.Rules.{rules}
 use Rattle.host_calls.proofs.preparing.prepare_samples.Goals as goal
 
 pub put_tables-requires : goal.put_tables-requires

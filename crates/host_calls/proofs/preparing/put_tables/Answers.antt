@@ -1,6 +1,5 @@
 -- `put_tables` meets its contract: four tables are made, and put one after the other.
 use Rattle.host_calls.proofs.PrepareLaws.{tables-put}
-use borrow.Author.Rules.{rules}
 use Rattle.host_calls.proofs.preparing.put_tables.Goals as goal
 
 pub returns : goal.returns

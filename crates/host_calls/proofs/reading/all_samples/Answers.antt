@@ -1,7 +1,6 @@
 -- `all_samples` meets its contract: the list has room for all.
 use mathlib.Core.Path.{refl}
 use Rattle.words.proofs.Handing.{samples_taken_lem}
-use borrow.Author.Rules.{rules}
 use Rattle.host_calls.proofs.reading.all_samples.Goals as goal
 
 pub returns : goal.returns

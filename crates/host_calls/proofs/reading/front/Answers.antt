@@ -1,6 +1,5 @@
 -- `front` meets its contract: the table has so many entries.
 use Rattle.host_calls.proofs.SearchingLaws.{front_read}
-use borrow.Author.Rules.{rules}
 use Rattle.host_calls.proofs.reading.front.Goals as goal
 
 pub returns : goal.returns

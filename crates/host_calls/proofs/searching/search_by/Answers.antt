@@ -1,7 +1,6 @@
 -- `search_by` meets its contract: the fronts of the four tables are converted, and the search goes by them.
 use native.Mathlib.Nat.{sub-zero}
 use Rattle.host_calls.proofs.SearchingLaws.{tables_read}
-use borrow.Author.Rules.{rules}
 use Rattle.host_calls.proofs.searching.search_by.Goals as goal
 
 pub front-requires : goal.front-requires

@@ -1,7 +1,6 @@
 -- `search_in` meets its contract: the trace's samples are converted and searched, and the answer is handed to the host.
 use native.Mathlib.Nat.{sub-zero}
 use Rattle.host_calls.proofs.SearchingLaws.{search_put}
-use borrow.Author.Rules.{rules}
 use Rattle.host_calls.proofs.tiers.search_in.Goals as goal
 
 pub returns : goal.returns

@@ -5,7 +5,6 @@ use native.Mathlib.Nat.{sub-zero}
 use Rattle.order.specs.Refusals.{accepted}
 use Rattle.sizes.proofs.Verdicts.{fine_accepted, pattern_passed}
 use Rattle.host_calls.proofs.SearchingLaws.{search_unfit, samples_searched}
-use borrow.Author.Rules.{rules}
 use Rattle.host_calls.proofs.tiers.search_large.Goals as goal
 
 pub all_samples-requires : goal.all_samples-requires

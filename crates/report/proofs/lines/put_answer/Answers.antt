@@ -3,7 +3,6 @@ use mathlib.Core.Path.{ap}
 use lib.ListN.{take}
 use Rattle.report.specs.Texts.{lines}
 use Rattle.report.proofs.Putting.{put_more, put_as}
-use borrow.Author.Rules.{rules}
 use Rattle.report.proofs.lines.put_answer.Goals as goal
 
 pub returns : goal.returns

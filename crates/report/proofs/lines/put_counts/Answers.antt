@@ -1,8 +1,6 @@
 -- `put_counts` meets its contract: five items and a newline.
 use native.Mathlib.Omega.{arith}
-use Rattle.report.proofs.Putting.{put-long}
 use Rattle.report.proofs.Printing.{within_more, within-room, counts_put}
-use borrow.Author.Rules.{rules}
 use Rattle.report.proofs.lines.put_counts.Goals as goal
 
 pub put_item-duels-requires : goal.put_item-duels-requires

@@ -1,11 +1,7 @@
 -- The goals of `put_positions` that the check leaves.
-use Prim.Native.Nat.{◌≤◌, ◌-◌, ◌*◌}
 use native.Mathlib.Nat.{le_antisymm}
 use native.Mathlib.Omega.{arith}
-use lib.ListN.{take}
-use Rattle.report.specs.Texts.{lines}
-use Rattle.report.specs.Inside.{line_room, PutWithin}
-use Rattle.report.proofs.Putting.{put-long}
+use Rattle.report.specs.Inside.{line_room}
 use Rattle.report.proofs.Printing.{within-room, lines-begun, lines_on}
 use borrow.Author.Rules.{rules}
 use Rattle.report.proofs.lines.put_positions.Goals as goal

@@ -1,14 +1,9 @@
 -- `put_positions` meets its contract. The loop's invariant: the positions passed are put, one to a line. The measure is the
 -- positions left.
 use Prim.Native.Nat.{◌≤◌, ◌-◌, ◌*◌}
-use native.Mathlib.Nat.{le_antisymm}
-use native.Mathlib.Omega.{arith}
 use lib.ListN.{take}
 use Rattle.report.specs.Texts.{lines}
 use Rattle.report.specs.Inside.{line_room, PutWithin}
-use Rattle.report.proofs.Putting.{put-long}
-use Rattle.report.proofs.Printing.{within-room, lines-begun, lines_on}
-use borrow.Author.Rules.{rules}
 use Rattle.report.proofs.lines.put_positions.Given as goal
 
 abbrev pub invariant-loop-k : goal.invariant-loop-k

@@ -1,6 +1,5 @@
 -- `put_refusal` meets its contract.
 use Rattle.report.proofs.Printing.{refusal_put}
-use borrow.Author.Rules.{rules}
 use Rattle.report.proofs.lines.put_refusal.Goals as goal
 
 pub returns : goal.returns

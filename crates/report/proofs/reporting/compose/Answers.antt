@@ -3,7 +3,6 @@ use mathlib.Core.Path.{refl, sym}
 use Rattle.report.specs.Texts.{blank}
 use Rattle.report.proofs.Putting.{put_as}
 use Rattle.report.proofs.Steps.{text_long, trace-refused, trace_read, pattern_refused, pattern_read, prepare_refused, prepare_done, search_refused, search_found, read_few, read_before, found_few, answer-room}
-use borrow.Author.Rules.{rules}
 use Rattle.report.proofs.reporting.compose.Goals as goal
 
 pub returns-then-input-gt-INPUT_LIMIT : goal.returns-then-input-gt-INPUT_LIMIT

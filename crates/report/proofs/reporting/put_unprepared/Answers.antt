@@ -4,7 +4,6 @@ use mathlib.Core.Path.{◌≡◌, ap}
 use native.Mathlib.Omega.{arith}
 use Rattle.report.specs.Texts.{refusal_line}
 use Rattle.report.proofs.Putting.{put_as}
-use borrow.Author.Rules.{rules}
 use Rattle.report.proofs.reporting.put_unprepared.Goals as goal
 
 pub returns-in_default : goal.returns-in_default

@@ -1,6 +1,5 @@
 -- `put_byte` meets its contract.
 use Rattle.report.proofs.Putting.{put_one}
-use borrow.Author.Rules.{rules}
 use Rattle.report.proofs.texts.put_byte.Goals as goal
 
 pub returns : goal.returns

@@ -2,7 +2,6 @@
 use native.Mathlib.Omega.{arith}
 use Rattle.report.proofs.Putting.{put-room}
 use Rattle.report.proofs.Printing.{short_64, item-put}
-use borrow.Author.Rules.{rules}
 use Rattle.report.proofs.texts.put_item.Goals as goal
 
 pub put_number-requires : goal.put_number-requires

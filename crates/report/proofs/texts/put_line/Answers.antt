@@ -2,7 +2,6 @@
 use native.Mathlib.Omega.{arith}
 use Rattle.report.proofs.Putting.{put-room}
 use Rattle.report.proofs.Printing.{short_32, line-put}
-use borrow.Author.Rules.{rules}
 use Rattle.report.proofs.texts.put_line.Goals as goal
 
 pub put_number-end-requires : goal.put_number-end-requires

@@ -1,10 +1,7 @@
 -- The goals of `put_text` that the check leaves.
-use Prim.Native.Nat.{◌≤◌, ◌-◌}
-use mathlib.Core.Path.{◌≡◌, refl}
-use lib.ListN.{length, take}
+use mathlib.Core.Path.{refl}
 use lib.Seq.{take_all}
-use Rattle.report.specs.Inside.{Put}
-use Rattle.report.proofs.Putting.{put_none, put_next, next_room, put_as, put-long}
+use Rattle.report.proofs.Putting.{put_none, put_next, next_room, put_as}
 use borrow.Author.Rules.{rules}
 use Rattle.report.proofs.texts.put_text.Goals as goal
 

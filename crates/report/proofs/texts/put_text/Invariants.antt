@@ -1,11 +1,8 @@
 -- `put_text` meets its contract. The loop's invariant: the bytes passed are put. The measure is the bytes left.
 use Prim.Native.Nat.{◌≤◌, ◌-◌}
-use mathlib.Core.Path.{◌≡◌, refl}
+use mathlib.Core.Path.{◌≡◌}
 use lib.ListN.{length, take}
-use lib.Seq.{take_all}
 use Rattle.report.specs.Inside.{Put}
-use Rattle.report.proofs.Putting.{put_none, put_next, next_room, put_as, put-long}
-use borrow.Author.Rules.{rules}
 use Rattle.report.proofs.texts.put_text.Given as goal
 
 abbrev pub invariant-loop-k : goal.invariant-loop-k

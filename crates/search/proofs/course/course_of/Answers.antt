@@ -9,7 +9,7 @@ use Rattle.order.specs.Sizes.{at}
 use Rattle.order.specs.Relations.{rel}
 use Rattle.search.specs.Inside.Courses.{Steady}
 use Rattle.search.proofs.SteadyLaws.{goes_one_way, no_witness, single_steady}
-use borrow.Author.Rules.{rules, sfits_of}
+use borrow.Author.Rules.{rules}
 use Rattle.search.proofs.course.course_of.Goals as goal
 
 pub returns-then-pattern-le1 : goal.returns-then-pattern-le1

@@ -1,7 +1,6 @@
 -- `sweep_mixed` meets its contract: the sweep of the survivors by the pattern's own tables is the rules'.
 use native.Mathlib.Omega.{arith}
 use Rattle.search.proofs.SweepSteps.{rows_few, mixed_refused, mixed_swept}
-use borrow.Author.Rules.{rules}
 use Rattle.search.proofs.mixed.sweep_mixed.Goals as goal
 
 pub returns-in_default : goal.returns-in_default

@@ -1,6 +1,5 @@
 -- `check_search` meets its contract: where there is room, the check of the tables decides, and otherwise what comes before it too.
 use Rattle.search.proofs.SearchVerdicts.{unfit_refused, foreign_refused, all_fine}
-use borrow.Author.Rules.{rules}
 use Rattle.search.proofs.searching.check_search.Goals as goal
 
 pub returns-in-Refused-check_tables : goal.returns-in-Refused-check_tables

@@ -1,6 +1,5 @@
 -- `keep_windows` meets its contract: by the pattern's own tables the duels are the rules', and they are always fought.
 use Rattle.search.proofs.OwnDuels.{never_refused, never_untold, survivors_out}
-use borrow.Author.Rules.{rules}
 use Rattle.search.proofs.searching.keep_windows.Goals as goal
 
 pub returns-in-Done : goal.returns-in-Done

@@ -5,7 +5,6 @@ use lib.ListN.{length}
 use Rattle.order.proofs.Lists.{windows_few}
 use Rattle.lists.proofs.FilledUp.{part_filled}
 use Rattle.search.proofs.WrittenOut.{positions_out, survivors-held, searched}
-use borrow.Author.Rules.{rules}
 use Rattle.search.proofs.searching.run.Goals as goal
 use Rattle.search.proofs.searching.run.Goals.{After-slice_known-4-1, After-slice_known-5-1, Start}
 

@@ -2,7 +2,6 @@
 use mathlib.Core.Path.{sym, ◌∙◌}
 use lib.ListN.{length}
 use Rattle.search.proofs.SearchLaws.{search_ready, search_refused, search_done}
-use borrow.Author.Rules.{rules}
 use Rattle.search.proofs.searching.search.Goals as goal
 
 pub run-requires : goal.run-requires

@@ -1,5 +1,4 @@
 -- `sweep_windows` meets its contract: either way is the rules' sweep.
-use borrow.Author.Rules.{rules}
 use Rattle.search.proofs.searching.sweep_windows.Goals as goal
 
 pub sweep_steady-requires : goal.sweep_steady-requires

@@ -1,8 +1,7 @@
 -- The goals of `climb` that the check leaves.
-use Prim.Native.Nat.{ℕ, ◌-◌}
+use Prim.Native.Nat.{ℕ}
 use mathlib.Core.Path.{sym, ◌∙◌, subst}
 use Rattle.search.proofs.Climbing.{Climbs, climb_begins, climbs_on, climb_fails, climb_ends}
-use borrow.Author.Rules.{rules}
 use Rattle.search.proofs.steady.climb.Goals as goal
 
 pub loop-e-init : goal.loop-e-init

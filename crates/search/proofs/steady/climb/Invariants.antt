@@ -1,8 +1,6 @@
 -- `climb` meets its contract: each turn is one test of the rules' sweep, of one comparison.
-use Prim.Native.Nat.{ℕ, ◌-◌}
-use mathlib.Core.Path.{sym, ◌∙◌, subst}
-use Rattle.search.proofs.Climbing.{Climbs, climb_begins, climbs_on, climb_fails, climb_ends}
-use borrow.Author.Rules.{rules}
+use Prim.Native.Nat.{◌-◌}
+use Rattle.search.proofs.Climbing.{Climbs}
 use Rattle.search.proofs.steady.climb.Given as goal
 
 abbrev pub invariant-loop-e : goal.invariant-loop-e

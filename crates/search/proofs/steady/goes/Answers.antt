@@ -4,7 +4,6 @@ use lib.Signed.{lt_z}
 use mir.Facts.{to_z-of_z}
 use Rattle.order.specs.Relations.{rel, alike}
 use Rattle.order.proofs.Comparing.{less_told, equal_told, greater_told}
-use borrow.Author.Rules.{rules}
 use Rattle.search.proofs.steady.goes.Goals as goal
 
 pub returns-in-Less : goal.returns-in-Less

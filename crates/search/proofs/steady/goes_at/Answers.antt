@@ -6,7 +6,7 @@ use mir.Val.{SFits}
 use mir.Facts.{to_z-of_z}
 use Rattle.order.specs.Sizes.{at}
 use Rattle.order.specs.Relations.{rel, alike}
-use borrow.Author.Rules.{rules, sfits_of}
+use borrow.Author.Rules.{rules}
 use Rattle.search.proofs.steady.goes_at.Goals as goal
 
 pub returns : goal.returns

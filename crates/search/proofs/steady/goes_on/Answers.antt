@@ -1,17 +1,15 @@
 -- The goals of `goes_on` that the check leaves.
-use Prim.Native.Nat.{◌+◌, ◌-◌}
+use Prim.Native.Nat.{◌+◌}
 use mir.Syntax.{w32}
 use mir.Val.{SFits}
-use mathlib.Core.Path.{◌≡◌, sym, ◌∙◌, ap₂}
-use mathlib.Core.Bool.{true}
+use mathlib.Core.Path.{sym, ◌∙◌, ap₂}
 use native.Mathlib.Omega.{arith}
 use mir.Facts.{to_z-of_z}
 use Rattle.order.specs.Sizes.{at}
 use Rattle.order.specs.Relations.{rel, alike}
 use Rattle.order.proofs.Tests.{and_first, and_second}
-use Rattle.search.specs.Inside.Runs.{block, GoesOn}
 use Rattle.search.proofs.RunLaws.{goes_nowhere, goes_further}
-use borrow.Author.Rules.{rules, sfits_of}
+use borrow.Author.Rules.{rules}
 use Rattle.search.proofs.steady.goes_on.Goals as goal
 
 pub loop-k-init : goal.loop-k-init

@@ -1,13 +1,12 @@
 -- The goals of `list_block` that the check leaves.
-use Prim.Native.Nat.{ℕ, ◌+◌, ◌-◌, ◌≤◌}
-use mathlib.Core.Path.{◌≡◌, refl, ◌∙◌, sym, ap}
+use Prim.Native.Nat.{ℕ, ◌+◌}
+use mathlib.Core.Path.{refl, ◌∙◌, sym, ap}
 use mathlib.Core.List.{List}
 use native.Mathlib.Nat.{le_antisymm}
 use native.Mathlib.Omega.{arith}
-use lib.ListN.{length, length-set, get_or, set}
-use Rattle.search.specs.Inside.Runs.{block, listed_run}
+use lib.ListN.{length-set, get_or, set}
+use Rattle.search.specs.Inside.Runs.{listed_run}
 use Rattle.search.proofs.RunLaws.{listed_none, listed_more}
-use borrow.Author.Rules.{rules}
 use Rattle.search.proofs.steady.list_block.Goals as goal
 
 pub loop-i-init : goal.loop-i-init

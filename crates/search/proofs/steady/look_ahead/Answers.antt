@@ -6,7 +6,6 @@ use native.Mathlib.Omega.{arith}
 use lib.ListN.{length, get_or}
 use Rattle.search.specs.Inside.Runs.{block}
 use Rattle.search.proofs.RunLaws.{all_inside, free-block, stepped_block, no_block}
-use borrow.Author.Rules.{rules}
 use Rattle.search.proofs.steady.look_ahead.Goals as goal
 use Rattle.search.proofs.steady.look_ahead.Goals.{Else-reach-x}
 

@@ -1,5 +1,5 @@
 -- The goals of `steady_some` that the check leaves.
-use Prim.Native.Nat.{ℕ, ◌+◌, ◌≤◌, ◌<◌, ◌-◌}
+use Prim.Native.Nat.{ℕ, ◌<◌}
 use mathlib.Core.Path.{◌∙◌, subst}
 use native.Mathlib.Nat.{le_antisymm}
 use native.Mathlib.Omega.{arith}
@@ -7,7 +7,6 @@ use lib.ListN.{length}
 use Rattle.lists.proofs.OneMore.{count-within}
 use Rattle.search.specs.Inside.Sweeps.{SweptTo}
 use Rattle.search.proofs.SweepSteps.{next_swept, entry_of, rows-number, rows_few, rows_inside, swept_as}
-use borrow.Author.Rules.{rules}
 use Rattle.search.proofs.steady.steady_some.Goals as goal
 use Rattle.search.proofs.steady.steady_some.Goals.{After-list_one-arg-1}
 

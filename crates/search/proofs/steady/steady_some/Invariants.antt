@@ -1,14 +1,7 @@
 -- `steady_some` meets its contract: each turn sweeps one survivor as the rules do, at one comparison for each
 -- sample passed and one more if it fails.
-use Prim.Native.Nat.{ℕ, ◌+◌, ◌≤◌, ◌<◌, ◌-◌}
-use mathlib.Core.Path.{◌∙◌, subst}
-use native.Mathlib.Nat.{le_antisymm}
-use native.Mathlib.Omega.{arith}
-use lib.ListN.{length}
-use Rattle.lists.proofs.OneMore.{count-within}
+use Prim.Native.Nat.{◌+◌, ◌≤◌, ◌-◌}
 use Rattle.search.specs.Inside.Sweeps.{SweptTo}
-use Rattle.search.proofs.SweepSteps.{next_swept, entry_of, rows-number, rows_few, rows_inside, swept_as}
-use borrow.Author.Rules.{rules}
 use Rattle.search.proofs.steady.steady_some.Given as goal
 
 abbrev pub invariant-loop-k : goal.invariant-loop-k

@@ -1,17 +1,14 @@
 -- `steady_turn` meets its contract: a block or some survivors one by one, each as the rules sweep them. A look that fails makes no more
 -- comparisons than survivors are swept after it.
 use Prim.Native.Nat.{◌+◌, ◌≤◌}
-use mathlib.Core.Path.{◌∙◌, ap}
 use mathlib.Core.Logic.{inl, inr}
 use native.Mathlib.Omega.{arith}
-use lib.ListN.{length}
 use Rattle.order.specs.Sizes.{trace_limit}
 use Rattle.search.specs.Inside.Asked.{spent_limit}
 use Rattle.search.specs.Inside.Runs.{block, listed_run}
 use Rattle.search.specs.Inside.Sweeps.{SweptTo}
 use Rattle.search.proofs.SweepSteps.{rows_few}
 use Rattle.search.proofs.RunLaws.{run_swept}
-use borrow.Author.Rules.{rules}
 use Rattle.search.proofs.steady.steady_turn.Goals as goal
 use Rattle.search.proofs.steady.steady_turn.Goals.{Then-look}
 

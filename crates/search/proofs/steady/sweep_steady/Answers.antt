@@ -1,11 +1,9 @@
 -- The goals of `sweep_steady` that the check leaves.
-use Prim.Native.Nat.{◌+◌, ◌-◌, ◌*◌, ◌≤◌}
-use mathlib.Core.Path.{◌∙◌}
+use Prim.Native.Nat.{◌+◌, ◌*◌, ◌≤◌}
 use native.Mathlib.Omega.{arith}
 use lib.ListN.{length}
-use Rattle.search.specs.Inside.Sweeps.{SweptTo, Turned, first, turn}
+use Rattle.search.specs.Inside.Sweeps.{first, turn}
 use Rattle.search.proofs.SweepSteps.{none_swept, from_here, from_there, all_swept, rows-number, rows_few}
-use borrow.Author.Rules.{rules}
 use Rattle.search.proofs.steady.sweep_steady.Goals as goal
 use Rattle.search.proofs.steady.sweep_steady.Goals.{At-loop-k}
 

@@ -1,12 +1,8 @@
 -- `sweep_steady` meets its contract. The loop's invariant has the comparisons made so far, those of looks that failed among them: at most one
 -- for each sample passed and two for each survivor done. The measure is the survivors left.
 use Prim.Native.Nat.{◌+◌, ◌-◌, ◌*◌, ◌≤◌}
-use mathlib.Core.Path.{◌∙◌}
-use native.Mathlib.Omega.{arith}
 use lib.ListN.{length}
-use Rattle.search.specs.Inside.Sweeps.{SweptTo, Turned, first, turn}
-use Rattle.search.proofs.SweepSteps.{none_swept, from_here, from_there, all_swept, rows-number, rows_few}
-use borrow.Author.Rules.{rules}
+use Rattle.search.specs.Inside.Sweeps.{SweptTo, Turned}
 use Rattle.search.proofs.steady.sweep_steady.Given as goal
 
 abbrev pub invariant-loop-k : goal.invariant-loop-k
