@@ -3,8 +3,7 @@
 //
 // Follows docs/RULES.md, "Frames". Costs nothing beside the one call of the crate `frames`: no sample is copied, and what that call promises
 // of a buffer and three numbers is promised of the frame. A view is made of any buffer and any numbers: it is the search that looks at them,
-// and refuses those that don't fit. Functions over a struct that holds a reference are proved by hand, so there are two, and the work is
-// elsewhere.
+// and refuses those that don't fit. The two functions are thin, and the work is elsewhere.
 
 #![tactic(auto)]
 
