@@ -10,7 +10,8 @@ check makes of the source (the goals of a function's proof) stay, and so does ev
 lemmas. A name whose new spelling is somebody else's gets the ending _lem; a line that begins 'ends otherwise:' says so.
 
 It turns .antt files, the clauses and comments of .rt files, must-fail edits, and what stands between backticks in the pages.
-A second run finds nothing to do.
+Run once, right after the older kit's scripts had turned the library's own names (docs/PORT.md): what it takes for a name of something is
+read off the tree as it stood then, so on a later tree it would turn names that are right.
 """
 
 import glob

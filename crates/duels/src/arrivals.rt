@@ -7,7 +7,7 @@
 
 ghost use Rattle.std.specs.Prelude.{◌≡◌, false, length, ◌+◌, ◌-◌, ◌≤◌};
 ghost use Rattle.order.specs.Sizes.{trace_limit, windows_of};
-ghost use Rattle.order.specs.Duels.{duel as duelOf};
+ghost use Rattle.order.specs.Duels.{duel as duel_of};
 ghost use Rattle.stitches.specs.Inside.{FreeWithin};
 ghost use Rattle.duels.specs.DuelPromise.{meets_by};
 ghost use Rattle.duels.specs.Inside.Codes.{own_code_lem, Coded};
@@ -47,7 +47,7 @@ fn duel(
     newer: u8,
 ) -> Meeting
     requires { Duelable pattern.now trace.now y.0 a.0 i.0 j.0 × (older ≡ own_code_lem pattern.now a.0 i.0 j.0) × (newer ≡ own_code_lem pattern.now 0 i.0 j.0) }
-    ensures { result ≡ duelOf pattern.now trace.now y.0 a.0 i.0 j.0 }
+    ensures { result ≡ duel_of pattern.now trace.now y.0 a.0 i.0 j.0 }
 {
     let seen = code_at(trace, y, i, j);
     if seen == older {
