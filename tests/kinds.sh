@@ -22,7 +22,7 @@ probe() {
   for call in "$@"; do
     n=$((n + 1))
     echo "pub fn use_$n(window: Window, offset: Offset, place: Place, tested: Tested, number: usize, entries: &[u16], samples: &[i32])" \
-      "{ let Tested::Failed(_, neighbour) = tested else { return; }; $call; }"
+      "{ let Tested::Failed(_, neighbour) = tested else { return; }; let _ = $call; }"
   done >"$work/crates/probe/src/lib.rt"
   printf 'use %s;\n' agreement::agree order::{Offset,Place,Tested,Window,test_place} >>"$work/crates/probe/src/lib.rt"
   (cd "$work/crates/probe" && rt check 2>&1)

@@ -2,6 +2,7 @@
 -- Assumes nothing.
 use mathlib.Core.Path.{◌≡◌, refl, sym, ◌∙◌, ap}
 use mathlib.Core.List.{List}
+use Rattle.std.specs.Prelude.{Result, Ok, Err}
 use mathlib.Core.Bool.{Bool, true, false, ◌||◌}
 use Prim.Native.Nat.{ℕ}
 use native.Mathlib.Omega.{arith}
@@ -10,38 +11,21 @@ use lib.ListN.{length, get_or}
 use borrow.Author.Tests.{eqb-true, eqb-false, eq-eqb, ne_eqb}
 use Rattle.order.specs.Sizes.{no_place}
 use Rattle.order.specs.Agree.{distance, agree_by_table}
-use Rattle.order.specs.Refusals.{Verdict, accepted, refused, agree_verdict, verdict_number, verdict_place}
+use Rattle.order.specs.Refusals.{agree_verdict}
 use Rattle.order.specs.declared.refusal.Refusal.{Refusal}
-use Rattle.sizes.specs.declared.answers.Checked.TheVariants.{Fine, Refused}
-use Rattle.sizes.specs.Answers.{checked_by}
-use Rattle.sizes.proofs.Verdicts.{fine_accepted, refused_why}
-use Rattle.agreement.specs.declared.answers.Agreement.{Agreement}
-use Rattle.agreement.specs.declared.answers.Agreement.TheVariants.{Refused as NotCompared}
-use Rattle.agreement.specs.Answers.{agreement_number, agreement_place, says_agree, agreement_of, agreement_by}
+use Rattle.order.specs.Answers.{answer_number, answer_place, answer_by}
+use Rattle.order.proofs.Answered.{done, unmet, numbered, placed, ok_accepted, err_refused}
+use Rattle.agreement.specs.Answers.{says_agree}
 use Rattle.agreement.specs.Promises.{AgreePromise}
 
-agreement_number_lem : (w : Verdict) (b : Bool) → agreement_number (agreement_by w b) ≡ verdict_number w
-agreement_number_lem accepted true = refl
-agreement_number_lem accepted false = refl
-agreement_number_lem (refused r) b = refl
-
-agreement_place_lem : (w : Verdict) (b : Bool) → agreement_place (agreement_by w b) ≡ verdict_place w
-agreement_place_lem accepted true = refl
-agreement_place_lem accepted false = refl
-agreement_place_lem (refused r) b = refl
-
-agreement_says : (b : Bool) → says_agree (agreement_of b) ≡ b
-agreement_says true = refl
-agreement_says false = refl
-
-agree_promised : (m : ℕ) (wi wj : List ℕ) (x y : ℕ) (r : Agreement) →
-    r ≡ agreement_by (agree_verdict m (length wi) (length wj)) (agree_by_table m wi x y) → AgreePromise m wi wj x y r
+agree_promised : (m : ℕ) (wi wj : List ℕ) (x y : ℕ) (r : Result Bool Refusal) →
+    r ≡ answer_by (agree_verdict m (length wi) (length wj)) (agree_by_table m wi x y) → AgreePromise m wi wj x y r
 agree_promised m wi wj x y r e =
     record {
-      number = ap agreement_number e ∙ agreement_number_lem (agree_verdict m (length wi) (length wj)) (agree_by_table m wi x y);
-      place = ap agreement_place e ∙ agreement_place_lem (agree_verdict m (length wi) (length wj)) (agree_by_table m wi x y);
+      number = ap answer_number e ∙ numbered (agree_verdict m (length wi) (length wj)) (agree_by_table m wi x y);
+      place = ap answer_place e ∙ placed (agree_verdict m (length wi) (length wj)) (agree_by_table m wi x y);
       answer = e;
-      says = λ a. ap says_agree (e ∙ ap (λ w. agreement_by w (agree_by_table m wi x y)) a) ∙ agreement_says (agree_by_table m wi x y);
+      says = λ a. ap says_agree (e ∙ ap (λ w. answer_by w (agree_by_table m wi x y)) a);
     }
 
 -- windows start together exactly if they are no distance apart
@@ -59,19 +43,19 @@ unfolding agree_by_table
 at_distance m a wi x y e = rw (e, together x y) refl
 
 pub agree-refused : (m : ℕ) (wi wj : List ℕ) (x y : ℕ) (why : Refusal) →
-    Refused why ≡ checked_by (agree_verdict m (length wi) (length wj)) → AgreePromise m wi wj x y (NotCompared why)
+    unmet why ≡ answer_by (agree_verdict m (length wi) (length wj)) tt → AgreePromise m wi wj x y (Err why)
 agree-refused m wi wj x y why e =
-    agree_promised m wi wj x y (NotCompared why)
-    (ap (λ w. agreement_by w (agree_by_table m wi x y)) (sym (refused_why (agree_verdict m (length wi) (length wj)) why e)))
+    agree_promised m wi wj x y (Err why)
+    (ap (λ w. answer_by w (agree_by_table m wi x y)) (sym (err_refused (agree_verdict m (length wi) (length wj)) tt e)))
 
-pub agree_compared : (m a : ℕ) (wi wj : List ℕ) (x y : ℕ) (r : Agreement) →
-    Fine ≡ checked_by (agree_verdict m (length wi) (length wj)) → a ≡ distance x y →
-    r ≡ agreement_of (eqb a 0 || (leb m a || eqb (get_or wi a 0) no_place)) → AgreePromise m wi wj x y r
-agree_compared m a wi wj x y r e d h =
-    agree_promised m wi wj x y r
-    (h ∙ ap agreement_of (at_distance m a wi x y d) ∙
-    ap (λ w. agreement_by w (agree_by_table m wi x y)) (sym (fine_accepted (agree_verdict m (length wi) (length wj)) e)))
+pub agree_compared : (m a : ℕ) (wi wj : List ℕ) (x y : ℕ) {b : Bool} →
+    done ≡ answer_by (agree_verdict m (length wi) (length wj)) tt → a ≡ distance x y →
+    b ≡ (eqb a 0 || (leb m a || eqb (get_or wi a 0) no_place)) → AgreePromise m wi wj x y (Ok b)
+agree_compared m a wi wj x y {b} e d h =
+    agree_promised m wi wj x y (Ok b)
+    (ap Ok (h ∙ at_distance m a wi x y d) ∙
+    ap (λ w. answer_by w (agree_by_table m wi x y)) (sym (ok_accepted (agree_verdict m (length wi) (length wj)) tt e).0))
 
-pub agree_only_answer : (m : ℕ) (wi wj : List ℕ) (x y : ℕ) (r s : Agreement) →
+pub agree_only_answer : (m : ℕ) (wi wj : List ℕ) (x y : ℕ) (r s : Result Bool Refusal) →
     AgreePromise m wi wj x y r → AgreePromise m wi wj x y s → r ≡ s
 agree_only_answer m wi wj x y r s p q = p.answer ∙ sym q.answer

@@ -4,8 +4,6 @@
 
 #![tactic(auto)]
 
-mod answers;
 mod windows;
 
-pub use answers::Agreement;
 pub use windows::agree;

@@ -11,14 +11,15 @@
 ghost use Rattle.std.specs.Prelude.{◌≤◌, length};
 
 use order::INPUT_LIMIT;
-use report::{Reported, TEXT_ROOM, report};
+use report::{TEXT_ROOM, report};
 use std::io;
 use std::io::Read;
 
 // One byte more than is accepted.
 const INPUT_ROOM: usize = INPUT_LIMIT + 1;
 
-// Reads until the buffer is full, the input ends or a read fails, and answers how many bytes it put at the buffer's start.
+// Reads until the buffer is full, the input ends or a read fails, and answers how many bytes it put at the buffer's start. A loop of
+// `read`, since of the library's methods `read_exact` doesn't tell how many bytes there were before the end, and `read_to_end` needs a heap.
 fn read_full<R: Read>(input: &mut R, buffer: &mut [u8]) -> usize
     ensures { result ≤ length buffer.new }
 {
@@ -37,7 +38,7 @@ fn main(rt: HostRuntime) -> io::Result<()> {
     let length = read_full(&mut rt.stdin(), &mut input);
     let mut text = [0u8; TEXT_ROOM];
     // It is never too short: TEXT_ROOM bytes have room for every text.
-    let Reported::Written(end) = report(&input[0..length], &mut text) else {
+    let Ok(end) = report(&input[0..length], &mut text) else {
         return Ok(());
     };
     rt.write_all(&text[0..end])

@@ -1,60 +1,58 @@
--- Shows: relations kept as numbers tell what the relations tell, so that the codes of an offset tell whether its entries tell a witness, and
--- a duel by them is the rules' duel; lists of them that are written offset by offset, up to one that tells none; and that two tests of
--- the machine tell the number.
+-- Shows: relations kept as numbers tell what the relations tell, so that the codes of an offset tell whether its entries tell a witness, and a duel by them is the rules' duel; and a list of them is written
+-- offset by offset, up to one that tells none.
 -- Assumes nothing.
-use Prim.Native.Nat.{ℕ, ◌+◌, ◌≤◌, ◌<◌, max}
+use Prim.Native.Nat.{ℕ, zero, suc, ◌+◌, ◌≤◌, ◌<◌, max}
 use mathlib.Core.Path.{◌≡◌, refl, sym, ◌∙◌, ap, ap₂}
 use mathlib.Core.List.{List}
 use mathlib.Core.Bool.{Bool, true, false, not, cond, ◌&&◌}
 use native.Mathlib.Omega.{arith}
-use lib.Dec.{leb, ltb, eqb}
-use lib.IntN.{ℤ}
+use Rattle.std.specs.Prelude.{None, Some}
 use lib.Signed.{le_z, lt_z}
 use mir.Syntax.{w32}
 use mir.Val.{to_z, of_z, SFits, bool_byte}
 use mir.Facts.{to_z-of_z}
+use lib.Dec.{leb, ltb, eqb}
+use lib.IntN.{ℤ}
 use lib.ListN.{length, get_or, set, length-set}
 use lib.Seq.{get_or-set_same, get_or-set_other}
 use borrow.Author.Tests.{eq-eqb, ne_eqb, eqb-true, eqb-false, leb-true, leb-false, ltb-true, lt-ltb, le-ltb, not-true}
-use Rattle.order.specs.declared.relation.Relation.{Relation}
-use Rattle.order.specs.declared.relation.Relation.TheVariants.{Less, Equal, Greater}
+use Rattle.std.specs.declared.cmp.Ordering.{Ordering}
+use Rattle.std.specs.declared.cmp.Ordering.TheVariants.{Less, Equal, Greater}
 use Rattle.order.specs.declared.steps.Meeting.TheVariants.{NewerFalls, OlderFalls, BothFall}
 use Rattle.order.specs.Sizes.{none, place, at, no_place, lowest, pattern_limit}
 use Rattle.order.specs.Relations.{rel, alike}
 use Rattle.order.specs.Duels.{fallen, duel}
 use Rattle.duels.specs.DuelPromise.{tells_witness, untold_at}
 use Rattle.duels.specs.Inside.Asked.{Duelable}
-use Rattle.duels.specs.Inside.Codes.{code, own_code_lem, CodesOf, empty, told, Coded, Looked, CodedTo, NoneBelow}
+use Rattle.duels.specs.declared.answers.Unfought.TheVariants.{Untold}
+use Rattle.duels.specs.declared.codes.Codes.{Codes}
+use Rattle.duels.specs.Inside.Codes.{code, own_code_lem, start_code, CodesOf, empty, told, unseen, Coded, Looked, Stopped, NoneBelow}
 use Rattle.order.proofs.Tests.{clash, must_fail, and_first, and_second}
 use Rattle.order.proofs.Lists.{below_suc, finds_lowest}
 use Rattle.order.proofs.Orders.{lt_z_not_le_z, le_z_total, alike_same, alike_refl}
 
 -- ---- one relation
 
-code_same : (r s : Relation) → eqb (code r) (code s) ≡ alike r s
-code_same Less Less = refl
-code_same Less Equal = refl
-code_same Less Greater = refl
-code_same Equal Less = refl
-code_same Equal Equal = refl
-code_same Equal Greater = refl
-code_same Greater Less = refl
-code_same Greater Equal = refl
-code_same Greater Greater = refl
+abbrev decode : ℕ → Ordering
+decode zero = Less
+decode (suc zero) = Equal
+decode (suc (suc n)) = Greater
 
-alike_codes : (r s : Relation) → code r ≡ code s → alike r s ≡ true
-alike_codes r s e = sym (code_same r s) ∙ eq-eqb (code r) (code s) e
+decode_code : (r : Ordering) → decode (code r) ≡ r
+decode_code Less = refl
+decode_code Equal = refl
+decode_code Greater = refl
 
-unlike_codes : (r s : Relation) → (code r ≡ code s → ⊥) → alike r s ≡ false
-unlike_codes r s f = sym (code_same r s) ∙ ne_eqb (code r) (code s) f
+-- its number tells which it is
+same_code : {r s : Ordering} → code r ≡ code s → r ≡ s
+same_code {r} {s} e = sym (decode_code r) ∙ ap decode e ∙ decode_code s
 
--- the pattern's own start
-own-start : (P : List ℤ) (i j : ℕ) → own_code_lem P 0 i j ≡ code (rel (at P i) (at P j))
-own-start P i j = let p : 0 + i ≡ i = omega arith in let q : 0 + j ≡ j = omega arith in ap₂ (λ m n. code (rel (at P m) (at P n))) p q
+unlike : (r s : Ordering) → (r ≡ s → ⊥) → alike r s ≡ false
+unlike r s f = must_fail (alike r s) (λ e. f (alike_same r s e))
 
 -- ---- the duel
 
-module _ {P T : List ℤ} {y a i j older newer seen : ℕ} (d : Duelable P T y a i j) (eo : older ≡ own_code_lem P a i j) (en : newer ≡ own_code_lem P 0 i j)
+module _ {P T : List ℤ} {y a i j : ℕ} {c : Codes} {seen : ℕ} (d : Duelable P T y a i j) (eo : c.older ≡ own_code_lem P a i j) (en : c.newer ≡ start_code P i j)
     (es : seen ≡ code (rel (at T (y + i)) (at T (y + j)))) where
   abbrev newer_stands : Bool
   newer_stands = alike (rel (at T (y + i)) (at T (y + j))) (rel (at P i) (at P j))
@@ -62,36 +60,34 @@ module _ {P T : List ℤ} {y a i j older newer seen : ℕ} (d : Duelable P T y a
   abbrev older_stands : Bool
   older_stands = alike (rel (at T (y + i)) (at T (y + j))) (rel (at P (a + i)) (at P (a + j)))
 
-  newer_code : newer ≡ code (rel (at P i) (at P j))
-  newer_code = en ∙ own-start P i j
-
   -- the older window stands, so the newer falls
-  pub newer_falls : seen ≡ older → NewerFalls ≡ duel P T y a i j
+  pub newer_falls : seen ≡ c.older → NewerFalls ≡ duel P T y a i j
   unfolding duel fallen
   newer_falls h = sym (ap₂ fallen struck stands)
     where
+      same : rel (at T (y + i)) (at T (y + j)) ≡ rel (at P (a + i)) (at P (a + j))
+      same = same_code (sym es ∙ h ∙ eo)
+
       stands : older_stands ≡ true
-      stands = alike_codes (rel (at T (y + i)) (at T (y + j))) (rel (at P (a + i)) (at P (a + j))) (sym es ∙ h ∙ eo)
+      stands = ap (λ r. alike r (rel (at P (a + i)) (at P (a + j)))) same ∙ alike_refl (rel (at P (a + i)) (at P (a + j)))
 
       struck : newer_stands ≡ false
-      struck =
-          must_fail newer_stands λ n.
-          d.differs (sym (alike_same (rel (at T (y + i)) (at T (y + j))) (rel (at P i) (at P j)) n) ∙ alike_same (rel (at T (y + i)) (at T (y + j))) (rel (at P (a + i)) (at P (a + j))) stands)
+      struck = unlike (rel (at T (y + i)) (at T (y + j))) (rel (at P i) (at P j)) (λ n. d.differs (sym n ∙ same))
 
   -- it falls, and the newer by its own comparison
-  module _ (f : seen ≡ older → ⊥) where
+  module _ (f : seen ≡ c.older → ⊥) where
     older_fell : older_stands ≡ false
-    older_fell = unlike_codes (rel (at T (y + i)) (at T (y + j))) (rel (at P (a + i)) (at P (a + j))) (λ q. f (es ∙ q ∙ sym eo))
+    older_fell = unlike (rel (at T (y + i)) (at T (y + j))) (rel (at P (a + i)) (at P (a + j))) (λ q. f (es ∙ ap code q ∙ sym eo))
 
-    pub older_alone_falls : seen ≡ newer → OlderFalls ≡ duel P T y a i j
+    pub older_alone_falls : seen ≡ c.newer → OlderFalls ≡ duel P T y a i j
     unfolding duel fallen
     older_alone_falls h =
-        sym (ap₂ fallen (alike_codes (rel (at T (y + i)) (at T (y + j))) (rel (at P i) (at P j)) (sym es ∙ h ∙ newer_code)) older_fell)
+        sym (ap₂ fallen (ap (λ r. alike r (rel (at P i) (at P j))) (same_code (sym es ∙ h ∙ en)) ∙ alike_refl (rel (at P i) (at P j))) older_fell)
 
-    pub both_fall : (seen ≡ newer → ⊥) → BothFall ≡ duel P T y a i j
+    pub both_fall : (seen ≡ c.newer → ⊥) → BothFall ≡ duel P T y a i j
     unfolding duel fallen
     both_fall g =
-        sym (ap₂ fallen (unlike_codes (rel (at T (y + i)) (at T (y + j))) (rel (at P i) (at P j)) (λ q. g (es ∙ q ∙ sym newer_code))) older_fell)
+        sym (ap₂ fallen (unlike (rel (at T (y + i)) (at T (y + j))) (rel (at P i) (at P j)) (λ q. g (es ∙ ap code q ∙ sym en))) older_fell)
 
 -- ---- the codes of an offset
 
@@ -132,68 +128,56 @@ inside-told P a i j g h d =
     by_relations P a i j g h ∙
     ap not (must_fail (alike (rel (at P i) (at P j)) (rel (at P (a + i)) (at P (a + j)))) (λ e. d (alike_same (rel (at P i) (at P j)) (rel (at P (a + i)) (at P (a + j))) e)))
 
--- what the code sees of an offset: a place outside, clear if the first entry is none
-pub outside_looked : (P : List ℤ) (a i j : ℕ) → length P ≤ max (a + i) (a + j) → Looked P a i j 0 0 (eqb i no_place)
-outside_looked P a i j h = go (eqb i no_place) refl
-  where
-    go : (t : Bool) → eqb i no_place ≡ t → Looked P a i j 0 0 t
-    go true e = empty (eqb-true i no_place e)
-    go false e = (eqb-false i no_place e, outside_untold P a i j h)
+-- what the code sees of an offset: a place outside
+pub outside_looked : (P : List ℤ) (a i j : ℕ) → length P ≤ max (a + i) (a + j) → (i ≡ no_place → ⊥) → Looked P a i j None
+outside_looked P a i j h f = (f, outside_untold P a i j h)
 
--- or two inside, clear if their codes differ
-pub inside-looked : (P : List ℤ) (a i j older newer : ℕ) → length P ≤ pattern_limit → a + i < length P → a + j < length P → older ≡ own_code_lem P a i j → newer ≡ own_code_lem P 0 i j
-    → Looked P a i j older newer (not (eqb older newer))
-inside-looked P a i j older newer l g h eo en = go (eqb older newer) refl
-  where
-    newer_is : newer ≡ code (rel (at P i) (at P j))
-    newer_is = en ∙ own-start P i j
+-- or two inside, which compare alike a places on
+module _ (P : List ℤ) (a i j : ℕ) (l : length P ≤ pattern_limit) (g : a + i < length P) (h : a + j < length P) {older newer : ℕ} (eo : older ≡ own_code_lem P a i j)
+    (en : newer ≡ start_code P i j) where
+  pub alike-looked : older ≡ newer → Looked P a i j None
+  alike-looked e = (
+    λ n. omega arith,
+    by_relations P a i j g h ∙ ap not (ap (λ r. alike r (rel (at P (a + i)) (at P (a + j)))) (same_code (sym en ∙ sym e ∙ eo)) ∙ alike_refl (rel (at P (a + i)) (at P (a + j)))),
+  )
 
-    go : (t : Bool) → eqb older newer ≡ t → Looked P a i j older newer (not t)
-    go true e = (
-      λ n. omega arith,
-      by_relations P a i j g h ∙ ap not (alike_codes (rel (at P i) (at P j)) (rel (at P (a + i)) (at P (a + j))) (sym newer_is ∙ sym (eqb-true older newer e) ∙ eo)),
-    )
-    go false e =
-        told
-        (by_relations P a i j g h ∙ ap not (unlike_codes (rel (at P i) (at P j)) (rel (at P (a + i)) (at P (a + j))) (λ q. eqb-false older newer e (eo ∙ sym q ∙ sym newer_is))))
-        eo en
+  -- or otherwise
+  pub told-looked : (older ≡ newer → ⊥) → Looked P a i j (Some (record { older = older; newer = newer }))
+  told-looked f = told (by_relations P a i j g h ∙ ap not (unlike (rel (at P i) (at P j)) (rel (at P (a + i)) (at P (a + j))) (λ q. f (eo ∙ sym (ap code q) ∙ sym en)))) eo en
 
 -- a first entry that names a place
-pub some-told : {P : List ℤ} {a i j older newer : ℕ} → CodesOf P a i j older newer → (i ≡ no_place → ⊥)
-    → (tells_witness P a i j ≡ true) × (older ≡ own_code_lem P a i j) × (newer ≡ own_code_lem P 0 i j)
+pub some-told : {P : List ℤ} {a i j : ℕ} {c : Codes} → CodesOf P a i j c → (i ≡ no_place → ⊥)
+    → (tells_witness P a i j ≡ true) × (c.older ≡ own_code_lem P a i j) × (c.newer ≡ start_code P i j)
 some-told (empty e) f = absurd (f e)
 some-told (told e p q) f = (e, p, q)
 
 -- ---- the codes of all offsets
 
-pub none_coded : (P : List ℤ) (wi wj olders newers : List ℕ) → length P ≤ length olders → length P ≤ length newers → Coded P wi wj olders newers 0
-none_coded P wi wj olders newers h k = record { olders_long = h; newers_long = k; each = λ a g. absurd (omega arith) }
+pub none_coded : (P : List ℤ) (wi wj : List ℕ) (codes : List Codes) → length P ≤ length codes → Coded P wi wj codes 0
+none_coded P wi wj codes h = record { long = h; each = λ a g. absurd (omega arith) }
 
 -- one offset more
-pub one_coded : {P : List ℤ} {wi wj olders newers : List ℕ} {a v w : ℕ} → Coded P wi wj olders newers a → a < length P
-    → CodesOf P a (get_or wi a 0) (get_or wj a 0) v w → Coded P wi wj (set olders a v) (set newers a w) (a + 1)
-one_coded {P} {wi} {wj} {olders} {newers} {a} {v} {w} c h e =
-    let o = c.olders_long in
-    let n = c.newers_long in
+pub one_coded : {P : List ℤ} {wi wj : List ℕ} {codes : List Codes} {a : ℕ} {c : Codes} → Coded P wi wj codes a → a < length P
+    → CodesOf P a (get_or wi a 0) (get_or wj a 0) c → Coded P wi wj (set codes a c) (a + 1)
+one_coded {P} {wi} {wj} {codes} {a} {c} d h e =
+    let o = d.long in
     record {
-      olders_long = omega (arith, length-set olders a v);
-      newers_long = omega (arith, length-set newers a w);
+      long = omega (arith, length-set codes a c);
       each = λ k g. go k g (eqb k a) refl;
     }
   where
-    go : (k : ℕ) → k < a + 1 → (t : Bool) → eqb k a ≡ t → CodesOf P k (get_or wi k 0) (get_or wj k 0) (get_or (set olders a v) k 0) (get_or (set newers a w) k 0)
+    go : (k : ℕ) → k < a + 1 → (t : Bool) → eqb k a ≡ t → CodesOf P k (get_or wi k 0) (get_or wj k 0) (get_or (set codes a c) k unseen)
     go k g true q =
         let s : k ≡ a = eqb-true k a q in
-        let o = c.olders_long in
-        let n = c.newers_long in
-        rw (s, get_or-set_same olders a v 0 (omega arith), get_or-set_same newers a w 0 (omega arith)) e
+        let o = d.long in
+        rw (s, get_or-set_same codes a c unseen (omega arith)) e
     go k g false q =
-        let d : k ≡ a → ⊥ = eqb-false k a q in
-        rw (get_or-set_other olders a k v 0 d, get_or-set_other newers a k w 0 d) (c.each k (omega (arith, d)))
+        let n : k ≡ a → ⊥ = eqb-false k a q in
+        rw (get_or-set_other codes a k c unseen n) (d.each k (omega (arith, n)))
 
 -- up to the pattern's end
-pub all_coded : {P : List ℤ} {wi wj olders newers : List ℕ} {r : ℕ} → CodedTo P wi wj olders newers r → length P ≤ r → Coded P wi wj olders newers (length P)
-all_coded c h = let d = c.coded in record { olders_long = d.olders_long; newers_long = d.newers_long; each = λ k g. d.each k (omega arith) }
+pub all_coded : {P : List ℤ} {wi wj : List ℕ} {codes : List Codes} {n : ℕ} → Coded P wi wj codes n → length P ≤ n → Coded P wi wj codes (length P)
+all_coded c h = record { long = c.long; each = λ k g. c.each k (omega arith) }
 
 -- ---- tables that can be fought with
 
@@ -210,7 +194,7 @@ pub told-clear : (P : List ℤ) (wi wj : List ℕ) (a : ℕ) → tells_witness P
 unfolding untold_at
 told-clear P wi wj a e = and-false (not (eqb (get_or wi a 0) no_place)) (not (tells_witness P a (get_or wi a 0) (get_or wj a 0))) (ap not e)
 
-coded-clear : (P : List ℤ) (wi wj : List ℕ) (a : ℕ) {older newer : ℕ} → CodesOf P a (get_or wi a 0) (get_or wj a 0) older newer → untold_at P wi wj a ≡ false
+coded-clear : (P : List ℤ) (wi wj : List ℕ) (a : ℕ) {c : Codes} → CodesOf P a (get_or wi a 0) (get_or wj a 0) c → untold_at P wi wj a ≡ false
 coded-clear P wi wj a (empty e) = none_clear P wi wj a e
 coded-clear P wi wj a (told e p q) = told-clear P wi wj a e
 
@@ -218,17 +202,22 @@ coded-clear P wi wj a (told e p q) = told-clear P wi wj a e
 pub all_clear : (P : List ℤ) (wi wj : List ℕ) → ((a : ℕ) → a < length P → untold_at P wi wj a ≡ false) → lowest (untold_at P wi wj) (length P) ≡ none
 all_clear P wi wj f = finds_lowest (untold_at P wi wj) (length P) none f
 
-pub coded_all_clear : {P : List ℤ} {wi wj olders newers : List ℕ} → Coded P wi wj olders newers (length P) → lowest (untold_at P wi wj) (length P) ≡ none
+pub coded_all_clear : {P : List ℤ} {wi wj : List ℕ} {codes : List Codes} → Coded P wi wj codes (length P) → lowest (untold_at P wi wj) (length P) ≡ none
 coded_all_clear {P} {wi} {wj} c = all_clear P wi wj (λ a h. coded-clear P wi wj a (c.each a h))
 
 pub none_all_clear : (P : List ℤ) (wi wj : List ℕ) → NoneBelow wi (length P) → lowest (untold_at P wi wj) (length P) ≡ none
 none_all_clear P wi wj n = all_clear P wi wj (λ a h. none_clear P wi wj a (n.none a h))
 
-pub stopped_there : {P : List ℤ} {wi wj olders newers : List ℕ} {r : ℕ} → CodedTo P wi wj olders newers r → r < length P → lowest (untold_at P wi wj) (length P) ≡ place r
+-- the first offset that tells none, behind others with codes
+pub stopped_there : {P : List ℤ} {wi wj : List ℕ} {codes : List Codes} {a : ℕ} → Coded P wi wj codes a → a < length P → Looked P a (get_or wi a 0) (get_or wj a 0) None → Stopped P wi wj (Untold a)
 unfolding untold_at
-stopped_there {P} {wi} {wj} {r = r} c h =
-    finds_lowest (untold_at P wi wj) (length P) (place r)
-    (record { below = h; here = rw (ne_eqb (get_or wi r 0) no_place (c.stopped h).0, (c.stopped h).1) refl; earlier = λ i k. coded-clear P wi wj i (c.coded.each i k) })
+stopped_there {P} {wi} {wj} {a = a} c h n =
+    record {
+      a = a;
+      is = refl;
+      first = finds_lowest (untold_at P wi wj) (length P) (place a)
+          (record { below = h; here = rw (ne_eqb (get_or wi a 0) no_place n.0, n.1) refl; earlier = λ i k. coded-clear P wi wj i (c.each i k) });
+    }
 
 pub none_so_far : (wi : List ℕ) → NoneBelow wi 0
 none_so_far wi = record { none = λ a h. absurd (omega arith) }

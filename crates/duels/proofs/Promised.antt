@@ -7,6 +7,7 @@ use mathlib.Core.List.{List, ◌++◌, reverse}
 use mathlib.Core.Bool.{Bool, true, false, not}
 use native.Mathlib.Omega.{arith}
 use native.Mathlib.Nat.{sub-zero}
+use Rattle.std.specs.Prelude.{Result, Ok, Err}
 use lib.Dec.{ltb}
 use lib.IntN.{ℤ}
 use lib.ListN.{length, take, drop, replicate, length-reverse, take-append-drop}
@@ -19,55 +20,53 @@ use Rattle.order.specs.Refusals.{Verdict, accepted, refused, refuse, pattern_ver
 use Rattle.order.specs.Written.{over, filled}
 use Rattle.order.proofs.Rows.{row_passes, row_refuses}
 use Rattle.order.proofs.Lists.{length-those}
-use Rattle.sizes.specs.declared.answers.Checked.{Checked}
-use Rattle.sizes.specs.declared.answers.Checked.TheVariants.{Fine, Refused as Unchecked}
-use Rattle.sizes.specs.declared.answers.Fitting.{Fitting}
-use Rattle.sizes.specs.declared.answers.Fitting.TheVariants.{Fit, Refused as Unfit}
-use Rattle.sizes.specs.Answers.{checked_by, fitting_by}
-use Rattle.sizes.proofs.Verdicts.{fine_accepted, refused_why, fit_accepted, unfit_why, pattern_passed, witnesses_passed, room_passed}
+use Rattle.order.specs.Answers.{answer_by}
+use Rattle.order.proofs.Answered.{ok_accepted, err_refused}
+use Rattle.sizes.proofs.Verdicts.{pattern_passed, witnesses_passed, room_passed}
 use Rattle.sizes.proofs.VerdictRows.{agree_row}
 use Rattle.lists.proofs.FilledUp.{written_out, filled-over}
+use Rattle.duels.specs.declared.arrivals.Arrived.{Arrived}
 use Rattle.duels.specs.declared.answers.Duelled.{Duelled}
-use Rattle.duels.specs.declared.answers.Duels.{Duels}
-use Rattle.duels.specs.declared.answers.Duels.TheVariants.{Done, Refused, Untold}
+use Rattle.duels.specs.declared.answers.Unfought.{Unfought}
+use Rattle.duels.specs.declared.answers.Unfought.TheVariants.{Refused}
 use Rattle.duels.specs.DuelPromise.{untold_at, meets_by, stack_by, duel_verdict, duels_number, duels_place, duels_by, after_duels, duelled_of, DuelPromise}
-use Rattle.duels.specs.Inside.Asked.{Arriving}
+use Rattle.duels.specs.Inside.Codes.{Stopped}
 use Rattle.duels.specs.Inside.Stacks.{top, pushed_run, enters, ArrivedOf, SameBehind, AllAgree, AllFree, KeptOf, Fought}
 use Rattle.duels.proofs.StackLaws.{length-top, reverse-top, few_arrived, at_first, standing_as, run_written, same_run}
 use Rattle.duels.proofs.LostRuns.{none_struck}
 
 -- ---- the buffer
 
-module _ (P : List ℤ) (wi wj : List ℕ) (T : List ℤ) {before after : List ℕ} {windows a k b : ℕ} (e : windows ≡ windows_of (length P) (length T)) (s : ArrivedOf P wi wj T after windows a k b) (same : SameBehind (windows_of (length P) (length T)) before after) where
-  stack_is : stack_by P wi wj T ≡ stacked (top after k) (a - k - b)
+module _ (P : List ℤ) (wi wj : List ℕ) (T : List ℤ) {before after : List ℕ} {windows : ℕ} {w : Arrived} (e : windows ≡ windows_of (length P) (length T)) (s : ArrivedOf P wi wj T after windows w) (same : SameBehind (windows_of (length P) (length T)) before after) where
+  stack_is : stack_by P wi wj T ≡ stacked (top after w.kept) (w.windows - w.kept - w.both)
   unfolding stack_by entrants
   stack_is = rw e at s.stack
 
   -- as many were struck as did not arrive
-  struck_is : windows - a ≡ struck P T
+  struck_is : windows - w.windows ≡ struck P T
   unfolding struck
   struck_is =
       let n = s.number in
       let c = length-those (is_struck P T) windows in
       rw (← e) (omega arith)
 
-  pub few-kept : k ≤ windows
+  pub few-kept : w.kept ≤ windows
   few-kept = let c = s.count in let f = few_arrived s in omega arith
 
-  pub filled_up : {end : List ℕ} → windows ≤ length before → end ≡ take k after ++ (replicate (windows - k) unused ++ drop windows after)
-      → KeptOf P wi wj T before end (record { kept = k; fought = a - k - b; struck = windows - a })
-  filled_up {end} h w =
+  pub filled_up : {end : List ℕ} → windows ≤ length before → end ≡ take w.kept after ++ (replicate (windows - w.kept) unused ++ drop windows after)
+      → KeptOf P wi wj T before end (record { kept = w.kept; fought = w.windows - w.kept - w.both; struck = windows - w.windows })
+  filled_up {end} h u =
       let c = s.count in
       let f = few_arrived s in
       let l = same.same_length in
-      let kept_number : k ≡ length (stack_by P wi wj T).kept = sym (ap (λ (t : Stack). length t.kept) stack_is ∙ length-top after k) in
-      let kept-first : take k after ≡ reverse (stack_by P wi wj T).kept = sym (ap (λ (t : Stack). reverse t.kept) stack_is ∙ reverse-top after k (omega arith)) in
+      let kept_number : w.kept ≡ length (stack_by P wi wj T).kept = sym (ap (λ (t : Stack). length t.kept) stack_is ∙ length-top after w.kept) in
+      let kept-first : take w.kept after ≡ reverse (stack_by P wi wj T).kept = sym (ap (λ (t : Stack). reverse t.kept) stack_is ∙ reverse-top after w.kept (omega arith)) in
       record {
         answer = told kept_number (sym (ap (λ (t : Stack). t.fought) stack_is)) struck_is;
         count = omega arith;
         written = subst (λ (n : ℕ). end ≡ over (filled (reverse (stack_by P wi wj T).kept) n) before) e
-            (written_out (reverse (stack_by P wi wj T).kept) before after k windows kept-first
-            (kept_number ∙ sym (length-reverse (stack_by P wi wj T).kept)) (omega arith) (rw (← e) at same.beyond) w);
+            (written_out (reverse (stack_by P wi wj T).kept) before after w.kept windows kept-first
+            (kept_number ∙ sym (length-reverse (stack_by P wi wj T).kept)) (omega arith) (rw (← e) at same.beyond) u);
       }
     where
       told : {p q r p' q' r' : ℕ} → p ≡ p' → q ≡ q' → r ≡ r' → ◌≡◌ {A = Duelled} (record { kept = p; fought = q; struck = r }) (record { kept = p'; fought = q'; struck = r' })
@@ -78,7 +77,7 @@ pub all_up : (P : List ℤ) (wi wj : List ℕ) (T : List ℤ) {before after : Li
     → AllAgree (meets_by P wi wj T) → AllFree T windows before after → KeptOf P wi wj T before after (record { kept = windows; fought = 0; struck = 0 })
 all_up P wi wj T {before} {after} {windows} e h all f =
     let s = run_written all (at_first (meets_by P wi wj T) (enters P T) before) (omega arith) (λ x g k. ap not (none_struck P T f.free x)) (omega arith) (f.pushed ∙ ap (pushed_run before 0 0) (sym (sub-zero windows))) in
-    let t : ArrivedOf P wi wj T after windows windows windows 0 = standing_as s refl (omega arith) (omega arith) refl in
+    let t : ArrivedOf P wi wj T after windows (record { windows = windows; kept = windows; both = 0 }) = standing_as s refl (omega arith) (omega arith) refl in
     let same : SameBehind (windows_of (length P) (length T)) before after = rw f.pushed (same_run before 0 0 windows (omega arith)) in
     let none : windows - windows ≡ 0 = omega arith in
     let d : windows - windows - 0 ≡ 0 = omega arith in
@@ -100,16 +99,16 @@ kept-over P wi wj T {before} {between} s k =
     }
 
 module _ {P : List ℤ} {wi wj : List ℕ} {T : List ℤ} {before : List ℕ} where
-  pub fought : {d : Duelled} {after : List ℕ} → lowest (untold_at P wi wj) (length P) ≡ none → KeptOf P wi wj T before after d → Fought P wi wj T before after (Done d)
+  pub fought : {d : Duelled} {after : List ℕ} → lowest (untold_at P wi wj) (length P) ≡ none → KeptOf P wi wj T before after d → Fought P wi wj T before after (Ok d)
   fought {d} e k =
       record {
-        answer = rw e (ap Done k.answer);
+        answer = rw e (ap Ok k.answer);
         written = k.written;
         bound = λ c g. let same : d ≡ c = cc in subst (λ (u : Duelled). u.fought + u.kept + u.struck ≤ windows_of (length P) (length T)) same k.count;
       }
 
-  pub not-fought : {r : ℕ} → lowest (untold_at P wi wj) (length P) ≡ place r → Fought P wi wj T before before (Untold r)
-  not-fought e = record { answer = rw e refl; written = refl; bound = λ c g. absurd (let z : ◌≡◌ {A = ℕ} 0 1 = cc in omega arith) }
+  pub not-fought : {why : Unfought} → Stopped P wi wj why → Fought P wi wj T before before (Err why)
+  not-fought s = record { answer = rw (s.first, s.is) refl; written = refl; bound = λ c g. absurd (let z : ◌≡◌ {A = ℕ} 0 1 = cc in omega arith) }
 
 -- ---- the conditions
 
@@ -123,15 +122,15 @@ module _ (m wi wj n survivors : ℕ) where
   room_twice false false v = refl
 
   -- the tables are refused, or the room decides
-  tables_decide : {why : Refusal} → Unchecked why ≡ checked_by (agree_verdict m wi wj) → duel_verdict m wi wj n survivors ≡ refused why
+  tables_decide : {why : Refusal} → Err why ≡ answer_by (agree_verdict m wi wj) (tt {0}) → duel_verdict m wi wj n survivors ≡ refused why
   unfolding duel_verdict agree_verdict
   tables_decide {why} e =
-      row_refuses (λ v. pattern_verdict m (witnesses_verdict m wi wj v)) (agree_row m wi wj) (refused_why (pattern_verdict m (witnesses_verdict m wi wj accepted)) why e) _
+      row_refuses (λ v. pattern_verdict m (witnesses_verdict m wi wj v)) (agree_row m wi wj) (err_refused (pattern_verdict m (witnesses_verdict m wi wj accepted)) (tt {0}) e) _
 
-  room_decides : Fine ≡ checked_by (agree_verdict m wi wj) → duel_verdict m wi wj n survivors ≡ room_verdict m n survivors survivors accepted
+  room_decides : {u : Unit {0}} → Ok u ≡ answer_by (agree_verdict m wi wj) (tt {0}) → duel_verdict m wi wj n survivors ≡ room_verdict m n survivors survivors accepted
   unfolding duel_verdict agree_verdict room_verdict
   room_decides e =
-      row_passes (λ v. pattern_verdict m (witnesses_verdict m wi wj v)) (agree_row m wi wj) (fine_accepted (pattern_verdict m (witnesses_verdict m wi wj accepted)) e) _ ∙
+      row_passes (λ v. pattern_verdict m (witnesses_verdict m wi wj v)) (agree_row m wi wj) (ok_accepted (pattern_verdict m (witnesses_verdict m wi wj accepted)) (tt {0}) e).0 _ ∙
       sym (room_twice (ltb trace_limit n) (ltb survivors (windows_of m n)) accepted)
 
   -- lengths that are accepted
@@ -146,7 +145,7 @@ module _ (P : List ℤ) (wi wj : List ℕ) (T : List ℤ) (before : List ℕ) wh
   abbrev verdict : Verdict
   verdict = duel_verdict (length P) (length wi) (length wj) (length T) (length before)
 
-  by_refusal : {why : Refusal} → verdict ≡ refused why → DuelPromise P wi wj T before (Refused why) before
+  by_refusal : {why : Refusal} → verdict ≡ refused why → DuelPromise P wi wj T before (Err (Refused why)) before
   by_refusal w =
       record {
         number = rw w refl;
@@ -156,52 +155,59 @@ module _ (P : List ℤ) (wi wj : List ℕ) (T : List ℤ) (before : List ℕ) wh
         bound = λ d g. absurd (let z : ◌≡◌ {A = ℕ} 0 1 = cc in omega arith);
       }
 
-  module _ {c : Checked} (t : c ≡ checked_by (agree_verdict (length P) (length wi) (length wj))) where
-    pub tables-refused : {why : Refusal} → c ≡ Unchecked why → DuelPromise P wi wj T before (Refused why) before
-    tables-refused e = by_refusal (tables_decide (length P) (length wi) (length wj) (length T) (length before) (sym e ∙ t))
+  -- the tables are refused, or the room
+  pub tables-refused : {why : Refusal} → Err why ≡ answer_by (agree_verdict (length P) (length wi) (length wj)) (tt {0}) → DuelPromise P wi wj T before (Err (Refused why)) before
+  tables-refused e = by_refusal (tables_decide (length P) (length wi) (length wj) (length T) (length before) e)
 
-    module _ {f : Fitting} (g : c ≡ Fine) (l : f ≡ fitting_by (room_verdict (length P) (length T) (length before) (length before) accepted) (windows_of (length P) (length T))) where
-      by_verdict : f ≡ fitting_by verdict (windows_of (length P) (length T))
-      by_verdict = l ∙ ap (λ v. fitting_by v (windows_of (length P) (length T))) (sym (room_decides (length P) (length wi) (length wj) (length T) (length before) (sym g ∙ t)))
+  module _ {u : Unit {0}} (t : Ok u ≡ answer_by (agree_verdict (length P) (length wi) (length wj)) (tt {0})) where
+    decided : verdict ≡ room_verdict (length P) (length T) (length before) (length before) accepted
+    decided = room_decides (length P) (length wi) (length wj) (length T) (length before) t
 
-      pub duels-refused : {why : Refusal} → f ≡ Unfit why → DuelPromise P wi wj T before (Refused why) before
-      duels-refused e = by_refusal (unfit_why verdict (windows_of (length P) (length T)) (sym e ∙ by_verdict))
+    pub duels-refused : {why : Refusal} → Err why ≡ answer_by (room_verdict (length P) (length T) (length before) (length before) accepted) (windows_of (length P) (length T))
+        → DuelPromise P wi wj T before (Err (Refused why)) before
+    duels-refused e = by_refusal (decided ∙ err_refused _ _ e)
 
-      module _ {windows : ℕ} (e : f ≡ Fit windows) where
-        fit : (verdict ≡ accepted) × (windows ≡ windows_of (length P) (length T))
-        fit = fit_accepted verdict (windows_of (length P) (length T)) (sym e ∙ by_verdict)
+    module _ {windows : ℕ} (l : Ok windows ≡ answer_by (room_verdict (length P) (length T) (length before) (length before) accepted) (windows_of (length P) (length T))) where
+      fit : (room_verdict (length P) (length T) (length before) (length before) accepted ≡ accepted) × (windows ≡ windows_of (length P) (length T))
+      fit = ok_accepted _ _ l
 
-        pub duels_ready : Arriving P wi wj T (length before) × (windows ≡ windows_of (length P) (length T)) × (0 < length P)
-        unfolding agree_verdict
-        duels_ready =
-            let v = fine_accepted (agree_verdict (length P) (length wi) (length wj)) (sym g ∙ t) in
-            let a = pattern_passed (length P) _ v in
-            let b = witnesses_passed (length P) (length wi) (length wj) accepted a.2 in
-            let c = room_passed (length P) (length T) (length before) (length before) accepted (fit_accepted _ _ (sym e ∙ l)).0 in
-            (record { limit = a.1; i_long = b.0; j_long = b.1; trace = c.0; enough = c.1 }, fit.1, a.0)
+      pub duels_ready : (windows_of (length P) (length T) ≤ length before) × (windows ≡ windows_of (length P) (length T)) × (0 < length P)
+      unfolding agree_verdict
+      duels_ready =
+          let v = (ok_accepted (agree_verdict (length P) (length wi) (length wj)) (tt {0}) t).0 in
+          ((room_passed (length P) (length T) (length before) (length before) accepted fit.0).1, fit.1, (pattern_passed (length P) _ v).0)
 
-        unnumbered : (s : Spot) (d : Duelled) → duels_number (duels_by accepted s d) ≡ 0
-        unnumbered none d = refl
-        unnumbered (place a) d = refl
+      -- what the windows duel by
+      pub field_ready : (length P ≤ pattern_limit) × (length P ≤ length wi) × (length P ≤ length wj) × (length T ≤ trace_limit)
+      unfolding agree_verdict
+      field_ready =
+          let v = (ok_accepted (agree_verdict (length P) (length wi) (length wj)) (tt {0}) t).0 in
+          let a = pattern_passed (length P) _ v in
+          let b = witnesses_passed (length P) (length wi) (length wj) accepted a.2 in
+          (a.1, b.0, b.1, (room_passed (length P) (length T) (length before) (length before) accepted fit.0).0)
 
-        unplaced : (s : Spot) (d : Duelled) → duels_place (duels_by accepted s d) ≡ 0
-        unplaced none d = refl
-        unplaced (place a) d = refl
+      unnumbered : (s : Spot) (d : Duelled) → duels_number (duels_by accepted s d) ≡ 0
+      unnumbered none d = refl
+      unnumbered (place a) d = refl
 
-        pub duels-done : {r : Duels} {after : List ℕ} → Fought P wi wj T before after r → DuelPromise P wi wj T before r after
-        duels-done k =
-            let s = lowest (untold_at P wi wj) (length P) in
-            let d = duelled_of (stack_by P wi wj T) (struck P T) in
-            record {
-              number = rw fit.0 (ap duels_number k.answer ∙ unnumbered s d);
-              place = rw fit.0 (ap duels_place k.answer ∙ unplaced s d);
-              answer = rw fit.0 k.answer;
-              survivors_after = k.written;
-              bound = k.bound;
-            }
+      unplaced : (s : Spot) (d : Duelled) → duels_place (duels_by accepted s d) ≡ 0
+      unplaced none d = refl
+      unplaced (place a) d = refl
+
+      pub duels-done : {r : Result Duelled Unfought} {after : List ℕ} → Fought P wi wj T before after r → DuelPromise P wi wj T before r after
+      duels-done k =
+          let s = lowest (untold_at P wi wj) (length P) in
+          let d = duelled_of (stack_by P wi wj T) (struck P T) in
+          record {
+            number = rw (decided ∙ fit.0) (ap duels_number k.answer ∙ unnumbered s d);
+            place = rw (decided ∙ fit.0) (ap duels_place k.answer ∙ unplaced s d);
+            answer = rw (decided ∙ fit.0) k.answer;
+            survivors_after = k.written;
+            bound = k.bound;
+          }
 
   -- no second answer, and no other content of the buffer
-  pub duels_only_answer : {r s : Duels} {after₁ after₂ : List ℕ} → DuelPromise P wi wj T before r after₁ → DuelPromise P wi wj T before s after₂ → (r ≡ s) × (after₁ ≡ after₂)
+  pub duels_only_answer : {r s : Result Duelled Unfought} {after₁ after₂ : List ℕ} → DuelPromise P wi wj T before r after₁ → DuelPromise P wi wj T before s after₂ → (r ≡ s) × (after₁ ≡ after₂)
   duels_only_answer {r} {s} p q =
       let same : r ≡ s = p.answer ∙ sym q.answer in
       (same, p.survivors_after ∙ ap (λ t. after_duels t (filled (reverse (stack_by P wi wj T).kept) (windows_of (length P) (length T))) before) same ∙ sym q.survivors_after)

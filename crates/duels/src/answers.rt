@@ -1,5 +1,8 @@
-// What the duels answer. Follows docs/RULES.md, "Duels" and "Refusals", numbers 1 to 5: specs/DuelPromise.antt gives each case its
-// number and values. Types alone.
+// What the duels tell, or why none were fought. Follows docs/RULES.md, "Duels" and "Refusals", numbers 1 to 5: specs/DuelPromise.antt
+// gives each answer its number and values. Types alone.
+
+ghost use Rattle.std.specs.Prelude.{◌≡◌};
+ghost use Rattle.duels.specs.declared.answers.Unfought.TheVariants.{Refused};
 
 use order::Refusal;
 
@@ -11,11 +14,18 @@ pub struct Duelled {
     pub struck: u32,
 }
 
-// What was fought, or why nothing was.
+// Why no duels were fought.
 #[derive(Clone, Copy)]
-pub enum Duels {
-    Done(Duelled),
+pub enum Unfought {
     Refused(Refusal),
     // the lowest offset whose entries name a place and tell no witness; which of the two is wrong, only preparation could tell
     Untold(usize),
+}
+
+impl From<Refusal> for Unfought {
+    ghost from_gives = { λ why told. told ≡ Refused why };
+
+    fn from(why: Refusal) -> Unfought {
+        Unfought::Refused(why)
+    }
 }

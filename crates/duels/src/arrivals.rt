@@ -10,13 +10,13 @@ ghost use Rattle.order.specs.Sizes.{trace_limit, windows_of};
 ghost use Rattle.order.specs.Duels.{duel as duel_of};
 ghost use Rattle.stitches.specs.Inside.{FreeWithin};
 ghost use Rattle.duels.specs.DuelPromise.{meets_by};
-ghost use Rattle.duels.specs.Inside.Codes.{own_code_lem, Coded};
-ghost use Rattle.duels.specs.Inside.Asked.{Duelable, Meetable, Arriving};
+ghost use Rattle.duels.specs.Inside.Codes.{own_code_lem, start_code, Coded};
+ghost use Rattle.duels.specs.Inside.Asked.{Duelable, Meetable};
 ghost use Rattle.duels.specs.Inside.Stacks.{ArrivedOf, RunAhead, SameBehind, pushed_run};
 
-use crate::codes::code_at;
+use crate::codes::{Codes, code_between};
+use crate::field::Field;
 use order::{LOST, Meeting, NONE, Offset, Place, Window};
-use words::{wide16, wide32};
 
 // What the windows so far have left: how many have arrived, how many of them are kept, and how many fell together with another.
 #[derive(Clone, Copy)]
@@ -26,136 +26,99 @@ pub(crate) struct Arrived {
     pub both: usize,
 }
 
-// Whether an arriving window ends on the stack.
+// Whether an arriving window ends on the stack. An enum, and the loops below labelled: the form that the project's document asks for.
 #[derive(Clone, Copy)]
 enum Arrival {
     Pushed,
     Dropped,
 }
 
-// The duel of window y with the window a before it, by the witness (i, j) and how the pattern compares there: one comparison of the
-// trace. Where the older window stands the newer can't, since a witness compares differently at its offset, so the newer is looked
-// at only where the older has fallen.
-fn duel(
-    pattern: &[i32],
-    trace: &[i32],
-    y: Window,
-    a: Offset,
-    i: Place,
-    j: Place,
-    older: u8,
-    newer: u8,
-) -> Meeting
-    requires { Duelable pattern.now trace.now y.0 a.0 i.0 j.0 × (older ≡ own_code_lem pattern.now a.0 i.0 j.0) × (newer ≡ own_code_lem pattern.now 0 i.0 j.0) }
-    ensures { result ≡ duel_of pattern.now trace.now y.0 a.0 i.0 j.0 }
-{
-    let seen = code_at(trace, y, i, j);
-    if seen == older {
-        return Meeting::NewerFalls;
+impl<'a> Field<'a> {
+    // The duel of window y with the window a before it, by the witness (i, j) and how the pattern compares there: one comparison of the
+    // trace. Where the older window stands the newer can't, since a witness compares differently at its offset, so the newer is looked
+    // at only where the older has fallen.
+    fn duel(self, y: Window, a: Offset, i: Place, j: Place, codes: Codes) -> Meeting
+        requires { Duelable self.pattern.now self.trace.now y.0 a.0 i.0 j.0 × (codes.older ≡ own_code_lem self.pattern.now a.0 i.0 j.0) × (codes.newer ≡ start_code self.pattern.now i.0 j.0) }
+        ensures { result ≡ duel_of self.entry.pattern.now self.entry.trace.now y.0 a.0 i.0 j.0 }
+    {
+        let seen = code_between(self.trace[y.0 + i.0], self.trace[y.0 + j.0]);
+        if seen == codes.older {
+            return Meeting::NewerFalls;
+        }
+        if seen == codes.newer {
+            return Meeting::OlderFalls;
+        }
+        Meeting::BothFall // it suits neither
     }
-    if seen == newer {
-        return Meeting::OlderFalls;
-    }
-    Meeting::BothFall // it suits neither
-}
 
-// What becomes of window x when the later window y looks at it.
-fn meet(
-    pattern: &[i32],
-    witness_i: &[u16],
-    witness_j: &[u16],
-    olders: &[u8],
-    newers: &[u8],
-    trace: &[i32],
-    x: Window,
-    y: Window,
-) -> Meeting
-    requires { Meetable pattern.now witness_i.now witness_j.now olders.now newers.now trace.now x.0 y.0 }
-    ensures { result ≡ meets_by pattern.now witness_i.now witness_j.now trace.now x.0 y.0 }
-{
-    let a = y.0 - x.0;
-    if pattern.len() <= a {
-        return Meeting::Agree;
+    // What becomes of window x when the later window y looks at it.
+    fn meet(self, codes: &[Codes], x: Window, y: Window) -> Meeting
+        requires { Meetable self.pattern.now self.witness_i.now self.witness_j.now codes.now self.trace.now x.0 y.0 }
+        ensures { result ≡ meets_by self.entry.pattern.now self.entry.witness_i.now self.entry.witness_j.now self.entry.trace.now x.0 y.0 }
+    {
+        let a = y.0 - x.0;
+        if self.pattern.len() <= a {
+            return Meeting::Agree;
+        }
+        let i = self.witness_i[a];
+        if i == NONE {
+            return Meeting::Agree;
+        }
+        let j = self.witness_j[a];
+        self.duel(
+            y,
+            Offset(a),
+            Place(usize::from(i)),
+            Place(usize::from(j)),
+            codes[a],
+        )
     }
-    let i = witness_i[a];
-    if i == NONE {
-        return Meeting::Agree;
-    }
-    let j = witness_j[a];
-    duel(
-        pattern,
-        trace,
-        y,
-        Offset(a),
-        Place(wide16(i)),
-        Place(wide16(j)),
-        olders[a],
-        newers[a],
-    )
-}
 
-// The windows from `from` up to `past` arrive, on the stack that those before them left. Each duel drops one window, or both: so the duels
-// fought are the windows dropped less those where both fell, and only these are counted on the way.
-pub(crate) fn duel_run(
-    pattern: &[i32],
-    witness_i: &[u16],
-    witness_j: &[u16],
-    olders: &[u8],
-    newers: &[u8],
-    trace: &[i32],
-    from: usize,
-    past: usize,
-    before: Arrived,
-    survivors: &mut [u32],
-) -> Arrived
-    requires { Arriving pattern.now witness_i.now witness_j.now trace.now (length survivors.old) × Coded pattern.now witness_i.now witness_j.now olders.now newers.now (length pattern.now) × RunAhead pattern.now trace.now from past × ArrivedOf pattern.now witness_i.now witness_j.now trace.now survivors.old from before.windows before.kept before.both }
-    ensures { ArrivedOf pattern.now witness_i.now witness_j.now trace.now survivors.new past result.windows result.kept result.both × SameBehind (windows_of (length pattern.now) (length trace.now)) survivors.old survivors.new }
-{
-    let mut kept = before.kept;
-    let mut both = before.both;
-    let mut y = from;
-    'windows: while y < past {
-        let end = loop {
-            if kept == 0 {
-                break Arrival::Pushed;
-            }
-            let x = wide32(survivors[kept - 1]);
-            match meet(
-                pattern,
-                witness_i,
-                witness_j,
-                olders,
-                newers,
-                trace,
-                Window(x),
-                Window(y),
-            ) {
-                Meeting::Agree => break Arrival::Pushed,
-                Meeting::OlderFalls => {
-                    kept -= 1;
+    // The windows from `from` up to `past` arrive, on the stack that those before them left. Each duel drops one window, or both: so the
+    // duels fought are the windows dropped less those where both fell, and only these are counted on the way.
+    pub(crate) fn duel_run(
+        self,
+        codes: &[Codes],
+        from: usize,
+        past: usize,
+        before: Arrived,
+        survivors: &mut [u32],
+    ) -> Arrived
+        requires { (windows_of (length self.pattern.now) (length self.trace.now) ≤ length survivors.old) × Coded self.pattern.now self.witness_i.now self.witness_j.now codes.now (length self.pattern.now) × RunAhead self.pattern.now self.trace.now from past × ArrivedOf self.pattern.now self.witness_i.now self.witness_j.now self.trace.now survivors.old from before }
+        ensures { ArrivedOf self.entry.pattern.now self.entry.witness_i.now self.entry.witness_j.now self.entry.trace.now survivors.new past result × SameBehind (windows_of (length self.entry.pattern.now) (length self.entry.trace.now)) survivors.old survivors.new }
+    {
+        let mut kept = before.kept;
+        let mut both = before.both;
+        'windows: for y in from..past {
+            let end = loop {
+                if kept == 0 {
+                    break Arrival::Pushed;
                 }
-                Meeting::NewerFalls => break Arrival::Dropped,
-                Meeting::BothFall => {
-                    kept -= 1;
-                    both += 1;
-                    break Arrival::Dropped;
+                let x = survivors[kept - 1] as usize;
+                match self.meet(codes, Window(x), Window(y)) {
+                    Meeting::Agree => break Arrival::Pushed,
+                    Meeting::OlderFalls => {
+                        kept -= 1;
+                    }
+                    Meeting::NewerFalls => break Arrival::Dropped,
+                    Meeting::BothFall => {
+                        kept -= 1;
+                        both += 1;
+                        break Arrival::Dropped;
+                    }
                 }
-            }
-        };
-        let Arrival::Pushed = end else {
-            y += 1;
-            continue 'windows;
-        };
-        survivors[kept] = y as u32;
-        kept += 1;
-        y += 1;
-    }
-    let count = past - from;
-    let windows = before.windows + count;
-    Arrived {
-        windows,
-        kept,
-        both,
+            };
+            let Arrival::Pushed = end else {
+                continue 'windows;
+            };
+            survivors[kept] = y as u32;
+            kept += 1;
+        }
+        Arrived {
+            windows: before.windows + (past - from),
+            kept,
+            both,
+        }
     }
 }
 

@@ -5,97 +5,74 @@
 // pattern, also so many places on as the offset says, and compare otherwise there. A duel may rely on that: tables with other entries
 // than these and none are not fought with.
 
-ghost use Rattle.std.specs.Prelude.{◌≡◌, true, ◌+◌, ◌<◌, ◌≤◌, length};
-ghost use Rattle.order.specs.Sizes.{at, pattern_limit};
+ghost use Rattle.std.specs.Prelude.{◌≡◌, true, ◌<◌, ◌≤◌, length};
+ghost use Rattle.order.specs.Sizes.{pattern_limit};
 ghost use Rattle.order.specs.Relations.{rel};
-ghost use Rattle.duels.specs.Inside.Codes.{code, own_code_lem, Looked, CodedTo, NoneBelow};
+ghost use Rattle.duels.specs.Inside.Codes.{code, Looked, CodedTo, NoneBelow};
 
-use order::{NONE, Offset, Place, Window};
-use words::{larger, wide16};
+use crate::answers::Unfought;
+use crate::field::Field;
+use order::{NONE, Offset};
 
-// How sample s of a list compares with sample t, as a number: 0 less, 1 equal, 2 greater. The machine needs one comparison and no branch
-// for it.
-fn code_between(v: &[i32], s: usize, t: usize) -> u8
-    requires { (s < length v.now) × (t < length v.now) }
-    ensures { result ≡ code (rel (at v.now s) (at v.now t)) }
+// How a compares with b, as a number: 0 less, 1 equal, 2 greater. A number, since the machine adds it up from one comparison with no branch.
+// An Ordering takes it two steps more in each duel, with which searches of sawtooth traces took up to 1.12 of their time.
+pub(crate) fn code_between(a: i32, b: i32) -> u8
+    ensures { result ≡ code (rel a b) }
 {
-    let a = v[s];
-    let b = v[t];
-    (b <= a) as u8 + (b < a) as u8
+    u8::from(b <= a) + u8::from(b < a)
 }
 
-// How places i and j of window y compare.
-pub(crate) fn code_at(trace: &[i32], y: Window, i: Place, j: Place) -> u8
-    requires { (y.0 + i.0 < length trace.now) × (y.0 + j.0 < length trace.now) }
-    ensures { result ≡ code (rel (at trace.now (y.0 + i.0)) (at trace.now (y.0 + j.0))) }
-{
-    code_between(trace, y.0 + i.0, y.0 + j.0)
-}
-
-// How places i and j of the pattern from offset a on compare.
-fn own_code(pattern: &[i32], a: Offset, i: Place, j: Place) -> u8
-    requires { (a.0 + i.0 < length pattern.now) × (a.0 + j.0 < length pattern.now) }
-    ensures { result ≡ own_code_lem pattern.now a.0 i.0 j.0 }
-{
-    code_between(pattern, a.0 + i.0, a.0 + j.0)
-}
-
-// How the places of the older and of the newer window compare at a witness, and whether the entries tell one, or none.
+// How a witness's two places compare in the older window and in the newer one, by the pattern.
 #[derive(Clone, Copy)]
 pub(crate) struct Codes {
-    pub clear: bool,
     pub older: u8,
     pub newer: u8,
 }
 
-// The codes of offset a by its two entries.
-fn codes_of(pattern: &[i32], a: Offset, i: u16, j: u16) -> Codes
-    requires { (a.0 < length pattern.now) × (length pattern.now ≤ pattern_limit) }
-    ensures { Looked pattern.now a.0 i j result.older result.newer result.clear }
-{
-    let s = wide16(i);
-    let t = wide16(j);
-    let room = pattern.len() - a.0;
-    if room <= larger(s, t) {
-        return Codes {
-            clear: i == NONE,
-            older: 0,
-            newer: 0,
-        };
-    }
-    let older = own_code(pattern, a, Place(s), Place(t));
-    let newer = own_code(pattern, Offset(0), Place(s), Place(t));
-    Codes {
-        clear: older != newer,
-        older,
-        newer,
-    }
+impl Codes {
+    // Where the first entry is none nobody looks.
+    pub(crate) const UNSEEN: Codes = Codes { older: 0, newer: 0 };
 }
 
-// Writes the codes of all offsets up to the first whose entries name a place and tell no witness, and answers which that is; the pattern's
-// length if there is none.
-pub(crate) fn write_codes(
-    pattern: &[i32],
-    witness_i: &[u16],
-    witness_j: &[u16],
-    olders: &mut [u8],
-    newers: &mut [u8],
-) -> usize
-    requires { (length pattern.now ≤ pattern_limit) × (length pattern.now ≤ length witness_i.now) × (length pattern.now ≤ length witness_j.now) × (length pattern.now ≤ length olders.old) × (length pattern.now ≤ length newers.old) }
-    ensures { CodedTo pattern.now witness_i.now witness_j.now olders.new newers.new result }
+// The codes of offset a by its two entries, or none if these name a place and tell no witness.
+fn codes_of(pattern: &[i32], a: Offset, i: u16, j: u16) -> Option<Codes>
+    requires { (a.0 < length pattern.now) × (length pattern.now ≤ pattern_limit) }
+    ensures { Looked pattern.now a.0 i j result }
 {
-    let mut a: usize = 0;
-    while a < pattern.len() {
-        let codes = codes_of(pattern, Offset(a), witness_i[a], witness_j[a]);
-        if codes.clear {
-            olders[a] = codes.older;
-            newers[a] = codes.newer;
-            a += 1;
-        } else {
-            return a;
+    let s = usize::from(i);
+    let t = usize::from(j);
+    let room = pattern.len() - a.0;
+    if room <= s.max(t) {
+        if i == NONE {
+            return Some(Codes::UNSEEN);
         }
+        return None; // a place outside
     }
-    a
+    let older = code_between(pattern[a.0 + s], pattern[a.0 + t]);
+    let newer = code_between(pattern[s], pattern[t]);
+    if older == newer {
+        return None; // alike at both
+    }
+    Some(Codes { older, newer })
+}
+
+// Writes the codes of all offsets, or tells the first whose entries name a place and tell no witness.
+pub(crate) fn write_codes<'a>(field: Field<'a>, codes: &mut [Codes]) -> Result<(), Unfought>
+    requires { length codes.old ≡ length field.pattern.now }
+    ensures { CodedTo field.entry.pattern.now field.entry.witness_i.now field.entry.witness_j.now codes.new result }
+{
+    for (a, code) in codes.iter_mut().enumerate() {
+        let Some(told) = codes_of(
+            field.pattern,
+            Offset(a),
+            field.witness_i[a],
+            field.witness_j[a],
+        ) else {
+            return Err(Unfought::Untold(a));
+        };
+        *code = told;
+    }
+    Ok(())
 }
 
 // Whether no offset below m has an entry that names a place. It looks at all of them even after one that does: a loop that could end early

@@ -12,7 +12,8 @@ mod answers;
 mod arrivals;
 mod codes;
 mod dueling;
+mod field;
 mod runs;
 
-pub use answers::{Duelled, Duels};
+pub use answers::{Duelled, Unfought};
 pub use dueling::duel_windows;

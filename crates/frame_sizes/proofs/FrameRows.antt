@@ -8,29 +8,30 @@ use mathlib.Core.Bool.{Bool, true, false, ◌||◌}
 use native.Mathlib.Omega.{arith}
 use native.Mathlib.Nat.{div-lt_iff_lt-mul, le-mul_of_pos_right, mul_comm, mul-le-mul}
 use lib.Dec.{ltb, eqb}
+use Rattle.std.specs.Prelude.{Result, Ok}
 use borrow.Author.Tests.{lt-ltb, le-ltb, ltb-true, ltb-false, eqb-false}
 use Rattle.order.specs.declared.refusal.Fault.TheVariants.{ZeroSize, LargeSize, NarrowPitch, ShortFrame, ShortPlaces}
 use Rattle.order.specs.declared.refusal.Refusal.{Refusal}
 use Rattle.order.specs.declared.refusal.Refusal.TheVariants.{Unplaced}
 use Rattle.order.specs.Sizes.{windows_of}
 use Rattle.order.specs.Refusals.{Verdict, accepted, refused, verdict_number, verdict_place}
+use Rattle.order.specs.Answers.{answer_number, answer_place, answer_by}
+use Rattle.order.proofs.Answered.{numbered, placed, ok_accepted}
 use Rattle.order.proofs.Lists.{windows_of_as}
 use Rattle.order.proofs.Rows.{passed}
 use Rattle.order.proofs.Tests.{clash, same_test}
 use Rattle.frame_sizes.specs.declared.Tries.{Tries}
-use Rattle.frame_sizes.specs.declared.Tries.TheVariants.{At, Refused}
 use Rattle.frame_sizes.specs.FrameSizes.{frame_limit, patch_limit, samples_needed, places_of, frame_verdict}
-use Rattle.frame_sizes.specs.Tried.{tries_number, tries_place, tries_by, TriesPromise, SizesFit}
+use Rattle.frame_sizes.specs.Tried.{tries_of, TriesPromise, SizesFit}
 
 -- ---- answers and verdicts
 
-pub at_accepted : (v : Verdict) (a b : ℕ) {rows columns : ℕ} → At rows columns ≡ tries_by v a b → (v ≡ accepted) × (rows ≡ a) × (columns ≡ b)
-at_accepted accepted a b e = (refl, cc, cc)
-at_accepted (refused r) a b e = let z : ◌≡◌ {A = ℕ} 0 1 = cc in absurd (omega arith)
-
-pub tries_refused : (v : Verdict) (a b : ℕ) (why : Refusal) → Refused why ≡ tries_by v a b → v ≡ refused why
-tries_refused accepted a b why e = let z : ◌≡◌ {A = ℕ} 0 1 = cc in absurd (omega arith)
-tries_refused (refused r) a b why e = cc
+-- accepted, with the rows and the columns
+pub ok_tries : (v : Verdict) (height width h k : ℕ) {t : Tries} → Ok t ≡ answer_by v (tries_of height width h k)
+    → (v ≡ accepted) × (t.rows ≡ windows_of h height) × (t.columns ≡ windows_of k width)
+ok_tries v height width h k e =
+    let p = ok_accepted v (tries_of height width h k) e in
+    (p.0, ap (λ (t : Tries). t.rows) p.1, ap (λ (t : Tries). t.columns) p.1)
 
 either_false : (a b : Bool) → (a || b) ≡ false → (a ≡ false) × (b ≡ false)
 either_false true b e = clash refl e
@@ -52,21 +53,13 @@ module _ (samples height width pitch patch h k positions : ℕ) where
   verdict = frame_verdict samples height width pitch patch h k positions
 
   -- an answer by the verdict is as promised
-  pub promised : {v : Verdict} {r : Tries} → verdict ≡ v → r ≡ tries_by v (windows_of h height) (windows_of k width) → TriesPromise samples height width pitch patch h k positions r
+  pub promised : {v : Verdict} {r : Result Tries Refusal} → verdict ≡ v → r ≡ answer_by v (tries_of height width h k) → TriesPromise samples height width pitch patch h k positions r
   promised {v} {r} e f =
       record {
-        number = ap tries_number f ∙ numbered v ∙ ap verdict_number (sym e);
-        place = ap tries_place f ∙ placed v ∙ ap verdict_place (sym e);
-        answer = f ∙ ap (λ w. tries_by w (windows_of h height) (windows_of k width)) (sym e);
+        number = ap answer_number f ∙ numbered v (tries_of height width h k) ∙ ap verdict_number (sym e);
+        place = ap answer_place f ∙ placed v (tries_of height width h k) ∙ ap verdict_place (sym e);
+        answer = f ∙ ap (λ w. answer_by w (tries_of height width h k)) (sym e);
       }
-    where
-      numbered : (w : Verdict) → tries_number (tries_by w (windows_of h height) (windows_of k width)) ≡ verdict_number w
-      numbered accepted = refl
-      numbered (refused why) = refl
-
-      placed : (w : Verdict) → tries_place (tries_by w (windows_of h height) (windows_of k width)) ≡ verdict_place w
-      placed accepted = refl
-      placed (refused why) = refl
 
   pub zero_size : zeros ≡ true → verdict ≡ refused (Unplaced ZeroSize)
   unfolding frame_verdict
@@ -93,7 +86,7 @@ module _ (samples height width pitch patch h k positions : ℕ) where
   all_fit a b c d e = rw (a, b, le-ltb pitch width c, d, le-ltb positions (places_of height width h k) e) refl
 
   -- no second answer
-  pub tries_only_answer : {r s : Tries} → TriesPromise samples height width pitch patch h k positions r → TriesPromise samples height width pitch patch h k positions s → r ≡ s
+  pub tries_only_answer : {r s : Result Tries Refusal} → TriesPromise samples height width pitch patch h k positions r → TriesPromise samples height width pitch patch h k positions s → r ≡ s
   tries_only_answer p q = p.answer ∙ sym q.answer
 
 -- ---- what they tell

@@ -1,29 +1,22 @@
 -- What the look at a frame's sizes promises: refusals 22 to 26, and the rows and columns at which the patch is tried. And what sizes that
 -- are accepted tell.
-use Rattle.std.specs.Prelude.{ℕ, ◌*◌, ◌≤◌, ◌<◌, ◌≡◌}
+use Rattle.std.specs.Prelude.{ℕ, Result, ◌*◌, ◌≤◌, ◌<◌, ◌≡◌}
+use Rattle.order.specs.declared.refusal.Refusal.{Refusal}
 use Rattle.order.specs.Sizes.{windows_of}
-use Rattle.order.specs.Refusals.{Verdict, accepted, refused, number_of, place_of, verdict_number, verdict_place}
+use Rattle.order.specs.Refusals.{verdict_number, verdict_place}
+use Rattle.order.specs.Answers.{answer_number, answer_place, answer_by}
 use Rattle.frame_sizes.specs.declared.Tries.{Tries}
-use Rattle.frame_sizes.specs.declared.Tries.TheVariants.{At, Refused}
 use Rattle.frame_sizes.specs.FrameSizes.{frame_limit, patch_limit, samples_needed, places_of, frame_verdict}
 
-abbrev pub tries_number : Tries → ℕ
-tries_number (At rows columns) = 0
-tries_number (Refused r) = number_of r
+-- at how many rows and columns a patch of h rows and k columns is tried
+abbrev pub tries_of : ℕ → ℕ → ℕ → ℕ → Tries
+tries_of height width h k = record { rows = windows_of h height; columns = windows_of k width }
 
-abbrev pub tries_place : Tries → ℕ
-tries_place (At rows columns) = 0
-tries_place (Refused r) = place_of r
-
-abbrev pub tries_by : Verdict → ℕ → ℕ → Tries
-tries_by accepted rows columns = At rows columns
-tries_by (refused r) rows columns = Refused r
-
-pub record TriesPromise (samples height width pitch patch h k positions : ℕ) (r : Tries) : Type 0 where
-  pub number : tries_number r ≡ verdict_number (frame_verdict samples height width pitch patch h k positions)
-  pub place : tries_place r ≡ verdict_place (frame_verdict samples height width pitch patch h k positions)
+pub record TriesPromise (samples height width pitch patch h k positions : ℕ) (r : Result Tries Refusal) : Type 0 where
+  pub number : answer_number r ≡ verdict_number (frame_verdict samples height width pitch patch h k positions)
+  pub place : answer_place r ≡ verdict_place (frame_verdict samples height width pitch patch h k positions)
   -- the rows and the columns, or the refusal
-  pub answer : r ≡ tries_by (frame_verdict samples height width pitch patch h k positions) (windows_of h height) (windows_of k width)
+  pub answer : r ≡ answer_by (frame_verdict samples height width pitch patch h k positions) (tries_of height width h k)
 
 -- what accepted sizes tell
 pub record SizesFit (samples height width pitch patch h k positions : ℕ) : Type 0 where

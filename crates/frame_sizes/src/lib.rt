@@ -20,11 +20,11 @@ pub const FRAME_LIMIT: usize = 1024;
 // The most samples of a patch.
 pub const PATCH_LIMIT: usize = 1024;
 
-// Where a patch is tried: at so many rows, and at each of them at so many columns, either of which may be 0; or why the call is refused.
+// Where a patch is tried: at so many rows, and at each of them at so many columns, either of which may be 0.
 #[derive(Clone, Copy)]
-pub enum Tries {
-    At { rows: usize, columns: usize },
-    Refused(Refusal),
+pub struct Tries {
+    pub rows: usize,
+    pub columns: usize,
 }
 
 // 22: one of the sizes is 0.
@@ -108,25 +108,25 @@ pub fn for_frame(
     h: usize,
     k: usize,
     positions: usize,
-) -> Tries
+) -> Result<Tries, Refusal>
     ensures { TriesPromise samples height width pitch patch h k positions result }
 {
     if is_zero(height, width, h, k) {
-        return Tries::Refused(Refusal::Unplaced(Fault::ZeroSize));
+        return Err(Refusal::Unplaced(Fault::ZeroSize));
     }
     if is_large(height, width, h, k) {
-        return Tries::Refused(Refusal::Unplaced(Fault::LargeSize));
+        return Err(Refusal::Unplaced(Fault::LargeSize));
     }
     if pitch < width {
-        return Tries::Refused(Refusal::Unplaced(Fault::NarrowPitch));
+        return Err(Refusal::Unplaced(Fault::NarrowPitch));
     }
     if is_short(samples, height, width, pitch, patch, h, k) {
-        return Tries::Refused(Refusal::Unplaced(Fault::ShortFrame));
+        return Err(Refusal::Unplaced(Fault::ShortFrame));
     }
     let rows = tried(h, height);
     let columns = tried(k, width);
     if positions < rows * columns {
-        return Tries::Refused(Refusal::Unplaced(Fault::ShortPlaces));
+        return Err(Refusal::Unplaced(Fault::ShortPlaces));
     }
-    Tries::At { rows, columns }
+    Ok(Tries { rows, columns })
 }

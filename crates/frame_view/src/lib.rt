@@ -11,6 +11,7 @@ ghost use Rattle.std.specs.Prelude.{◌≡◌};
 ghost use Rattle.frames.specs.FramePromise.{FramePromise};
 
 use frames::{Sighted, search_frame};
+use order::Refusal;
 
 // A frame: the driver's own samples, and how many rows and columns of them there are and how far apart rows start.
 #[derive(Clone, Copy)]
@@ -21,7 +22,7 @@ pub struct Frame<'a> {
     pub pitch: usize,
 }
 
-// A view of a buffer of samples.
+// A view of a buffer of samples. A function, and no method of the struct: callers have it by this name.
 pub fn view<'a>(samples: &'a [u16], height: usize, width: usize, pitch: usize) -> Frame<'a>
     ensures { (result.samples ≡ samples.entry) × (result.height ≡ height) × (result.width ≡ width) × (result.pitch ≡ pitch) }
 {
@@ -40,7 +41,7 @@ pub fn search_view<'a>(
     h: usize,
     k: usize,
     positions: &mut [u32],
-) -> Sighted
+) -> Result<Sighted, Refusal>
     ensures { FramePromise frame.entry.samples.now frame.entry.height frame.entry.width frame.entry.pitch patch.now h k positions.old result positions.new }
 {
     search_frame(

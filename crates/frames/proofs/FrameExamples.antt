@@ -3,23 +3,24 @@
 use Prim.Native.Nat.{ℕ}
 use mathlib.Core.Path.{◌≡◌, refl}
 use mathlib.Core.List.{List, [], ◌∷◌}
-use lib.ListN.{length}
+use Rattle.std.specs.Prelude.{Result, Ok, Err}
 use Rattle.order.specs.declared.refusal.Fault.{Fault}
 use Rattle.order.specs.declared.refusal.Fault.TheVariants.{ZeroSize, LargeSize, NarrowPitch, ShortFrame, ShortPlaces}
 use Rattle.order.specs.declared.refusal.Refusal.TheVariants.{Unplaced}
 use Rattle.order.specs.Sizes.{unused, windows_of, each, those}
 use Rattle.order.specs.Isomorphic.{is_iso, all_below}
+use Rattle.order.specs.declared.refusal.Refusal.{Refusal}
+use Rattle.order.specs.Answers.{answer_by}
 use Rattle.order.specs.Written.{filled, after_verdict}
 use Rattle.levels.specs.Levels.{levels}
 use Rattle.frame_sizes.specs.FrameSizes.{samples_needed, places_of, frame_verdict}
 use Rattle.frames.specs.declared.answers.Sighted.{Sighted}
-use Rattle.frames.specs.declared.answers.Sighted.TheVariants.{Done, Refused}
 use Rattle.frames.specs.Frames.{level_at, under, matches_at, row_listed, rows_listed, places_listed}
-use Rattle.frames.specs.FramePromise.{sighted_by, buffers_verdict}
+use Rattle.frames.specs.FramePromise.{sighted_of, buffers_verdict}
 
 -- a call: its answer, and its positions buffer, which held five times 7
 pub record Outcome : Type 0 where
-  pub answer : Sighted
+  pub answer : Result Sighted Refusal
   pub positions : List ℕ
 
 abbrev sevens : List ℕ
@@ -28,15 +29,15 @@ sevens = 7 ∷ 7 ∷ 7 ∷ 7 ∷ 7 ∷ []
 unfoldable pub call : ℕ → ℕ → ℕ → List ℕ → ℕ → ℕ → List ℕ → Outcome
 call height width pitch F h k Q =
     record {
-      answer = sighted_by (buffers_verdict F height width pitch Q h k sevens) (places_of height width h k) (length (places_listed F height width pitch Q h k));
+      answer = answer_by (buffers_verdict F height width pitch Q h k sevens) (sighted_of F height width pitch Q h k);
       positions = after_verdict (buffers_verdict F height width pitch Q h k sevens) (filled (places_listed F height width pitch Q h k) (places_of height width h k)) sevens;
     }
 
 abbrev found : ℕ → ℕ → List ℕ → Outcome
-found tried number positions = record { answer = Done tried number; positions = positions }
+found tried number positions = record { answer = Ok (record { places = tried; found = number }); positions = positions }
 
 abbrev refusal : Fault → Outcome
-refusal f = record { answer = Refused (Unplaced f); positions = sevens }
+refusal f = record { answer = Err (Unplaced f); positions = sevens }
 
 -- two rows of three, with two samples between them that belong to neither
 abbrev rows : List ℕ

@@ -10,11 +10,13 @@ use mathlib.Core.Bool.{Bool, true}
 use native.Mathlib.Omega.{arith}
 use native.Mathlib.Nat.{eq-or-lt_of_le, le_of_suc-le-suc}
 use lib.ListN.{length, take, drop, replicate}
+use Rattle.std.specs.Prelude.{Result, Ok, Err}
 use lib.Seq.{take_at, length-take-le}
 use Rattle.order.specs.declared.refusal.Refusal.{Refusal}
 use Rattle.order.specs.Sizes.{unused, windows_of, those}
 use Rattle.order.specs.Isomorphic.{Iso}
 use Rattle.order.specs.Refusals.{Verdict, accepted, refused, verdict_number, verdict_place}
+use Rattle.order.specs.Answers.{answer_by}
 use Rattle.order.specs.Written.{over, filled, after_verdict}
 use Rattle.order.proofs.Lists.{mem_those, those_mem, Ascending, those_ascend, windows_of_as}
 use Rattle.order.proofs.Isomorphisms.{iso_computed, computed_iso}
@@ -24,9 +26,8 @@ use Rattle.frame_sizes.specs.FrameSizes.{samples_needed, places_of}
 use Rattle.frame_sizes.specs.Tried.{SizesFit}
 use Rattle.frame_sizes.proofs.FrameRows.{sizes_fit}
 use Rattle.frames.specs.declared.answers.Sighted.{Sighted}
-use Rattle.frames.specs.declared.answers.Sighted.TheVariants.{Done, Refused}
 use Rattle.frames.specs.Frames.{under, matches_at, row_listed, rows_listed, places_listed}
-use Rattle.frames.specs.FramePromise.{sighted_by, buffers_verdict, FramePromise}
+use Rattle.frames.specs.FramePromise.{sighted_of, buffers_verdict, FramePromise}
 use Rattle.frames.proofs.RowNumbers.{row_of, column_of}
 use Rattle.frames.proofs.ListingLaws.{row_room}
 use Rattle.frames.specs.Inside.{RowsListed, PlacesWritten, PatchInside}
@@ -162,17 +163,20 @@ module _ (F : List ℕ) (height width pitch : ℕ) (Q : List ℕ) (h k : ℕ) (b
   abbrev verdict : Verdict
   verdict = buffers_verdict F height width pitch Q h k before
 
+  abbrev told : Sighted
+  told = sighted_of F height width pitch Q h k
+
   abbrev list : List ℕ
   list = places_listed F height width pitch Q h k
 
-  pub frame_refused : (why : Refusal) → verdict ≡ refused why → FramePromise F height width pitch Q h k before (Refused why) before
+  pub frame_refused : (why : Refusal) → verdict ≡ refused why → FramePromise F height width pitch Q h k before (Err why) before
   frame_refused why v =
       record {
         number = ap verdict_number (sym v);
         place = ap verdict_place (sym v);
-        answer = ap (λ w. sighted_by w (places_of height width h k) (length list)) (sym v);
+        answer = ap (λ w. answer_by w told) (sym v);
         positions_after = ap (λ w. after_verdict w (filled list (places_of height width h k)) before) (sym v);
-        exact = λ places found e. let z : ◌≡◌ {A = ℕ} 0 1 = cc in absurd (omega arith);
+        exact = λ s e. cc;
       }
 
   -- what is written tells the list again
@@ -199,7 +203,7 @@ module _ (F : List ℕ) (height width pitch : ℕ) (Q : List ℕ) (h k : ℕ) (b
       }
 
   pub frame-done : {places found : ℕ} {after : List ℕ} → verdict ≡ accepted → places ≡ places_of height width h k → PlacesWritten F height width pitch Q h k before found after
-      → FramePromise F height width pitch Q h k before (Done places found) after
+      → FramePromise F height width pitch Q h k before (Ok (record { places = places; found = found })) after
   unfolding places_listed matches_at
   frame-done {places} {found} {after} v e w =
       let wide = windows_of_as k width in
@@ -207,17 +211,20 @@ module _ (F : List ℕ) (height width pitch : ℕ) (Q : List ℕ) (h k : ℕ) (b
       record {
         number = ap verdict_number (sym v);
         place = ap verdict_place (sym v);
-        answer = ap₂ Done e w.number ∙ ap (λ u. sighted_by u (places_of height width h k) (length list)) (sym v);
+        answer = rw (e, w.number) refl ∙ ap (λ u. answer_by u told) (sym v);
         positions_after = w.written ∙ ap (λ u. after_verdict u (filled list (places_of height width h k)) before) (sym v);
-        exact = λ p f q row column g.
-            let same : found ≡ f = cc in
-            let again : take f after ≡ list = ap (λ n. take n after) (sym same ∙ w.number) ∙ list_again after (places_of height width h k) w.within w.written in
+        exact = λ s q row column g.
+            let same : found ≡ s.found = counted q in
+            let again : take s.found after ≡ list = ap (λ n. take n after) (sym same ∙ w.number) ∙ list_again after (places_of height width h k) w.within w.written in
             let x = exactly (matches_at F pitch Q h k) width (windows_of k width) (windows_of h height) row column (omega arith) g in (
               (λ m. let y = x.0 (subst (Memᴰ (row * width + column)) again m) in (y.0, y.1, match_iso row column y.2)),
               (λ y. subst (Memᴰ (row * width + column)) (sym again) (x.1 (y.0, y.1, iso_match row column y.2))),
             );
       }
     where
+      counted : {a b : Sighted} → ◌≡◌ {A = Result Sighted Refusal} (Ok a) (Ok b) → a.found ≡ b.found
+      counted {a} {b} e = let f : a ≡ b = cc in ap (λ (s : Sighted). s.found) f
+
       match_iso : (row column : ℕ) → matches_at F pitch Q h k row column ≡ true → Iso (levels Q (h * k)) (under F pitch h k row column)
       match_iso row column e = computed_iso (levels Q (h * k)) (under F pitch h k row column) e
 
@@ -225,6 +232,6 @@ module _ (F : List ℕ) (height width pitch : ℕ) (Q : List ℕ) (h k : ℕ) (b
       iso_match row column i = iso_computed (levels Q (h * k)) (under F pitch h k row column) i
 
   -- no second answer, and no other content
-  pub frame_only_answer : {r s : Sighted} {after₁ after₂ : List ℕ} → FramePromise F height width pitch Q h k before r after₁ → FramePromise F height width pitch Q h k before s after₂
+  pub frame_only_answer : {r s : Result Sighted Refusal} {after₁ after₂ : List ℕ} → FramePromise F height width pitch Q h k before r after₁ → FramePromise F height width pitch Q h k before s after₂
       → (r ≡ s) × (after₁ ≡ after₂)
   frame_only_answer p q = (p.answer ∙ sym q.answer, p.positions_after ∙ sym q.positions_after)

@@ -15,6 +15,7 @@ use mir.Val.{bool_byte}
 use Rattle.order.specs.Sizes.{those}
 use Rattle.order.proofs.Lists.{those-suc}
 use Rattle.frames.proofs.RowNumbers.{next_row}
+use Rattle.frames.specs.declared.places.Step.{Step}
 use Rattle.frames.specs.Frames.{row_listed, rows_listed}
 use Rattle.frames.specs.Inside.{all_places_pass, Listed, RowsListed}
 
@@ -126,11 +127,11 @@ listed-nowhere {t} base n found before f =
     record { grown = sym (append-nil (take found before)) ∙ ap (λ l. take found before ++ shift base l) (sym (those_none t n f)); at_most = omega arith; beyond = λ e h. refl }
 
 -- a block of a row behind others
-pub block_then : (F offsets below above : List ℕ) (at : ℕ) {base a n found k r : ℕ} {before now after : List ℕ}
-    → Listed (λ i. all_places_pass F offsets below above (at + i)) base a found before k now → Listed (λ i. all_places_pass F offsets below above (at + a + i)) (base + a) n k now r after
-    → Listed (λ i. all_places_pass F offsets below above (at + i)) base (a + n) found before r after
-block_then F offsets below above at {a = a} v w =
-    listed_then v (listed_same w (λ i h. ap (all_places_pass F offsets below above) (let e : at + a + i ≡ at + (a + i) = omega arith in e)))
+pub block_then : (F : List ℕ) (steps : List Step) (at : ℕ) {base a n found k r : ℕ} {before now after : List ℕ}
+    → Listed (λ i. all_places_pass F steps (at + i)) base a found before k now → Listed (λ i. all_places_pass F steps (at + a + i)) (base + a) n k now r after
+    → Listed (λ i. all_places_pass F steps (at + i)) base (a + n) found before r after
+block_then F steps at {a = a} v w =
+    listed_then v (listed_same w (λ i h. ap (all_places_pass F steps) (let e : at + a + i ≡ at + (a + i) = omega arith in e)))
 
 -- ---- rows
 

@@ -2,7 +2,7 @@
 -- are left when it is known what passes below a place.
 -- Assumes nothing.
 use Prim.Native.Nat.{ℕ, zero, suc, ◌+◌, ◌-◌, ◌≤◌, ◌<◌}
-use mathlib.Core.Path.{◌≡◌, refl, sym, ◌∙◌, ap, ap₂}
+use mathlib.Core.Path.{◌≡◌, refl, sym, ◌∙◌, ap, ap₂, subst}
 use mathlib.Core.Logic.{⊎_elim}
 use mathlib.Core.List.{List}
 use mathlib.Core.Bool.{Bool, true, false, ◌&&◌}
@@ -10,14 +10,15 @@ use native.Mathlib.Omega.{arith}
 use native.Mathlib.Numerals.{add-one}
 use native.Mathlib.Nat.{eq-or-lt_of_le}
 use lib.Dec.{ltb, eqb}
-use lib.ListN.{length, get_or, take, drop, set, length-set, length-take, length-drop}
+use lib.ListN.{length, get_or, take, drop, set, replicate, get_or-replicate, length-set, length-take, length-drop}
 use lib.Seq.{get_or-set_same, get_or-set_other, get_or-take, get_or-drop}
 use borrow.Author.Tests.{eqb-true, eqb-false}
 use mir.Val.{bool_byte}
 use Rattle.order.specs.Isomorphic.{all_below}
 use Rattle.order.proofs.Tests.{clash, must_fail, and_both, and_first, and_second}
 use Rattle.order.proofs.Isomorphisms.{pass_each}
-use Rattle.frames.specs.Inside.{nowhere, step_test, step_passes_lem, pass_below, all_places_pass, StepWithin, Within, AllStand, Counted, Narrowed, Stands, Looked, BlockTested, RestTested, KnownBelow}
+use Rattle.frames.specs.declared.places.Step.{Step}
+use Rattle.frames.specs.Inside.{nowhere, no_step, step_test, step_passes_lem, pass_below, all_places_pass, StepWithin, Within, AllStand, Counted, Narrowed, Stands, Looked, BlockTested, RestTested, KnownBelow}
 use Rattle.frames.proofs.StepLaws.{one_near, high_near, low_near, both_near}
 
 pub at_most_one : (b : Bool) → bool_byte b ≤ 1
@@ -66,8 +67,8 @@ counted_more {mask} {k} {n} b w h =
     split : {c : Bool} (i : ℕ) → i < k + 1 → b ≡ c → (i < k → get_or mask i false ≡ c) → get_or (set mask k b) i false ≡ c
     split i g e f = ⊎_elim (λ (q : i ≡ k). stored mask k b i q h ∙ e) (λ (q : i < k). other mask k b i (λ z. omega arith) ∙ f q) (eq-or-lt_of_le (let z : i ≤ k = omega arith in z))
 
-pub counted_all : {mask : List Bool} {k n : ℕ} → CountedTo mask k n → length mask ≤ k → k ≤ length mask → Counted mask n
-counted_all w h g = record { none_left = λ e i l. w.none_left e i (omega arith); all_left = λ e i l. w.all_left (omega arith) i (omega arith) }
+pub counted_all : {mask : List Bool} {k n : ℕ} → CountedTo mask k n → length mask ≤ k → k ≤ length mask → length mask ≤ 128 → Counted mask n
+counted_all w h g f = record { few = f; none_left = λ e i l. w.none_left e i (omega arith); all_left = λ e i l. w.all_left (omega arith) i (omega arith) }
 
 -- of a mask that was `before` the entries below k are thinned out, with their number
 pub record Thinned (t : ℕ → Bool) (before now : List Bool) (k n : ℕ) : Type 0 where
@@ -94,28 +95,13 @@ thinned_more {t} {before} {now} {k} {n} b w h e =
     inside : k < length now
     inside = let l = w.long in omega arith
 
-pub thinned_all : {t : ℕ → Bool} {before now : List Bool} {k n : ℕ} → Thinned t before now k n → length before ≤ k → k ≤ length before → Narrowed t before n now
-thinned_all w h g = let l = w.long in record { stands = λ i q. w.thin i (omega arith); counted = counted_all w.number (omega arith) (omega arith) }
+pub thinned_all : {t : ℕ → Bool} {before now : List Bool} {k n : ℕ} → Thinned t before now k n → length before ≤ k → k ≤ length before → length before ≤ 128 → Narrowed t before n now
+thinned_all w h g f = let l = w.long in record { stands = λ i q. w.thin i (omega arith); counted = counted_all w.number (omega arith) (omega arith) (omega arith) }
 
--- entries that are set, one a turn
-pub record StandTo (mask before : List Bool) (k : ℕ) : Type 0 where
-  pub long : length mask ≡ length before
-  pub stand : (i : ℕ) → i < k → get_or mask i false ≡ true
-
-pub stand_none : (mask : List Bool) → StandTo mask mask 0
-stand_none mask = record { long = refl; stand = λ i h. absurd (omega arith) }
-
-pub stand_more : {mask before : List Bool} {k : ℕ} → StandTo mask before k → k < length before → StandTo (set mask k true) before (k + 1)
-stand_more {mask} {before} {k} w h =
-    let l = w.long in
-    record {
-      long = length-set mask k true ∙ l;
-      stand = λ i g.
-          ⊎_elim (λ (q : i ≡ k). stored mask k true i q (omega arith)) (λ (q : i < k). other mask k true i (λ z. omega arith) ∙ w.stand i q) (eq-or-lt_of_le (let z : i ≤ k = omega arith in z));
-    }
-
-pub stand_all_lem : {mask before : List Bool} {k : ℕ} → StandTo mask before k → length before ≤ k → AllStand mask
-stand_all_lem w h = let l = w.long in record { stands = λ i g. w.stand i (omega arith) }
+-- the front of a mask all of which stands
+pub stand_front : (n m : ℕ) → n ≤ m → n ≤ 128 → AllStand (take (n - 0) (replicate m true))
+stand_front n m h f =
+    record { few = (let a = length-take (n - 0) (replicate m true) in omega arith); stands = λ i g. let a = length-take (n - 0) (replicate m true) in get_or-take (n - 0) (replicate m true) i false (omega arith) ∙ get_or-replicate m i true false (omega arith) }
 
 -- ---- tests that come to the same, and a test that all pass
 
@@ -136,21 +122,21 @@ unfolding all_below
 all_below_same zero p q f = refl
 all_below_same (suc n) p q f = ap₂ ◌&&◌ (all_below_same n p q (λ i h. f i (omega arith))) (f n (omega arith))
 
-module _ (F offsets below above : List ℕ) where
-  none_tested : (s : ℕ) → pass_below 0 F offsets below above s ≡ true
+module _ (F : List ℕ) (steps : List Step) where
+  none_tested : (s : ℕ) → pass_below 0 F steps s ≡ true
   unfolding pass_below all_below
   none_tested s = refl
 
-  one_more : (s j : ℕ) → pass_below (j + 1) F offsets below above s ≡ (pass_below j F offsets below above s && step_passes_lem F offsets below above s j)
+  one_more : (s j : ℕ) → pass_below (j + 1) F steps s ≡ (pass_below j F steps s && step_passes_lem F steps s j)
   unfolding pass_below all_below
   one_more s j = rw add-one refl
 
-  fails_at : (s j : ℕ) → j < length offsets → step_passes_lem F offsets below above s j ≡ false → all_places_pass F offsets below above s ≡ false
+  fails_at : (s j : ℕ) → j < length steps → step_passes_lem F steps s j ≡ false → all_places_pass F steps s ≡ false
   unfolding pass_below
-  fails_at s j h e = must_fail (all_below (length offsets) (step_passes_lem F offsets below above s)) (λ g. clash (pass_each (length offsets) (step_passes_lem F offsets below above s) g j h) e)
+  fails_at s j h e = must_fail (all_below (length steps) (step_passes_lem F steps s)) (λ g. clash (pass_each (length steps) (step_passes_lem F steps s) g j h) e)
 
   -- a test that was told
-  pub step-told : (s j : ℕ) {b c : Bool} → b ≡ step_test F s (get_or offsets j 0) (get_or below j 0) (get_or above j 0) → b ≡ c → step_passes_lem F offsets below above s j ≡ c
+  pub step-told : (s j : ℕ) {b c : Bool} → b ≡ step_test F s (get_or steps j no_step) → b ≡ c → step_passes_lem F steps s j ≡ c
   unfolding step_passes_lem
   step-told s j e f = sym e ∙ f
 
@@ -163,63 +149,67 @@ module _ (F offsets below above : List ℕ) where
   fell_now true false e t f g = g refl
   fell_now true true e t f g = clash e t
 
-  module _ {s j n : ℕ} {before after : List Bool} (h : j < length offsets) (t : Narrowed (λ i. step_passes_lem F offsets below above (s + i) j) before n after) (l : length after ≡ length before) where
-    fell_there : {d : ℕ} → Stands F offsets below above s d before → (i : ℕ) → i < length after → get_or after i false ≡ false → all_places_pass F offsets below above (s + i) ≡ false
+  module _ {s j n : ℕ} {before after : List Bool} (h : j < length steps) (t : Narrowed (λ i. step_passes_lem F steps (s + i) j) before n after) (l : length after ≡ length before) where
+    fell_there : {d : ℕ} → Stands F steps s d before → (i : ℕ) → i < length after → get_or after i false ≡ false → all_places_pass F steps (s + i) ≡ false
     fell_there w i g e =
-        fell_now (get_or before i false) (step_passes_lem F offsets below above (s + i) j) (t.stands i (omega arith)) e
+        fell_now (get_or before i false) (step_passes_lem F steps (s + i) j) (t.stands i (omega arith)) e
         (λ z. w.fallen i (omega arith) z) (λ z. fails_at (s + i) j h z)
 
     -- a place out of turn strikes some, and all that is known of the others stays
-    pub looked_late : {d k : ℕ} → Looked F offsets below above s d k before → Looked F offsets below above s d n after
+    pub looked_late : {d k : ℕ} → Looked F steps s d k before → Looked F steps s d n after
     looked_late w =
         record {
           within = w.within;
           stands = record {
-            standing = λ i g e. w.stands.standing i (omega arith) (was_standing (get_or before i false) (step_passes_lem F offsets below above (s + i) j) (t.stands i (omega arith)) e).0;
+            standing = λ i g e. w.stands.standing i (omega arith) (was_standing (get_or before i false) (step_passes_lem F steps (s + i) j) (t.stands i (omega arith)) e).0;
             fallen = fell_there w.stands;
           };
           counted = t.counted;
         }
 
     -- the next place
-    pub looked_more : {k : ℕ} → Looked F offsets below above s j k before → Looked F offsets below above s (j + 1) n after
+    pub looked_more : {k : ℕ} → Looked F steps s j k before → Looked F steps s (j + 1) n after
     looked_more w =
         record {
           within = omega arith;
           stands = record {
             standing = λ i g e.
-                let p = was_standing (get_or before i false) (step_passes_lem F offsets below above (s + i) j) (t.stands i (omega arith)) e in
-                one_more (s + i) j ∙ and_both (pass_below j F offsets below above (s + i)) (step_passes_lem F offsets below above (s + i) j) (w.stands.standing i (omega arith) p.0) p.1;
+                let p = was_standing (get_or before i false) (step_passes_lem F steps (s + i) j) (t.stands i (omega arith)) e in
+                one_more (s + i) j ∙ and_both (pass_below j F steps (s + i)) (step_passes_lem F steps (s + i) j) (w.stands.standing i (omega arith) p.0) p.1;
             fallen = fell_there w.stands;
           };
           counted = t.counted;
         }
 
+  -- at the last of them
+  pub looked_end : {s j n : ℕ} {mask : List Bool} → Looked F steps s j n mask → length steps ≤ j → Looked F steps s (length steps) n mask
+  looked_end {s} {j} {n} {mask} w h = let a = w.within in subst (λ (d : ℕ). Looked F steps s d n mask) (let e : j ≡ length steps = omega arith in e) w
+
   -- where all stand nothing is known yet
-  pub looked_at_nothing : {s n : ℕ} {mask : List Bool} → AllStand mask → n ≡ length mask → Looked F offsets below above s 0 n mask
+  pub looked_at_nothing : {s n : ℕ} {mask : List Bool} → AllStand mask → n ≡ length mask → Looked F steps s 0 n mask
   looked_at_nothing {s} w e =
       record {
         within = omega arith;
         stands = record { standing = λ i h z. none_tested (s + i); fallen = λ i h z. clash (w.stands i h) z };
-        counted = record { none_left = λ z i h. absurd (omega arith); all_left = λ z i h. w.stands i h };
+        counted = record { few = w.few; none_left = λ z i h. absurd (omega arith); all_left = λ z i h. w.stands i h };
       }
 
   -- ---- the rest of the places
 
-  pub rest_done : {s from j : ℕ} → (pass_below from F offsets below above s ≡ true → pass_below j F offsets below above s ≡ true) → length offsets ≤ j → j ≤ length offsets
-      → RestTested F offsets below above s from true
+  pub rest_done : {s from j : ℕ} → (pass_below from F steps s ≡ true → pass_below j F steps s ≡ true) → length steps ≤ j → j ≤ length steps
+      → RestTested F steps s from true
   rest_done {s} {from} {j} f h g =
-      let end : j ≡ length offsets = omega arith in
-      record { rest_passes_lem = λ e p. ap (λ n. pass_below n F offsets below above s) (sym end) ∙ f p; not_all = λ e. clash refl e }
+      let end : j ≡ length steps = omega arith in
+      record { rest_passes_lem = λ e p. ap (λ n. pass_below n F steps s) (sym end) ∙ f p; not_all = λ e. clash refl e }
 
-  pub rest_failed : {s from j : ℕ} → j < length offsets → step_passes_lem F offsets below above s j ≡ false → RestTested F offsets below above s from false
+  pub rest_failed : {s from j : ℕ} → j < length steps → step_passes_lem F steps s j ≡ false → RestTested F steps s from false
   rest_failed {s} {from} {j} h e = record { rest_passes_lem = λ z. clash z refl; not_all = λ z. fails_at s j h e }
 
-  pub rest_more : (s from j : ℕ) → (pass_below from F offsets below above s ≡ true → pass_below j F offsets below above s ≡ true) → step_passes_lem F offsets below above s j ≡ true
-      → pass_below from F offsets below above s ≡ true → pass_below (j + 1) F offsets below above s ≡ true
+  pub rest_more : (s from j : ℕ) → (pass_below from F steps s ≡ true → pass_below j F steps s ≡ true) → step_passes_lem F steps s j ≡ true
+      → pass_below from F steps s ≡ true → pass_below (j + 1) F steps s ≡ true
   rest_more s from j f e p = one_more s j ∙ ap₂ ◌&&◌ (f p) e
 
-  pub stands_on : {s from : ℕ} {stands : Bool} (r : Bool) → RestTested F offsets below above s from r → KnownBelow F offsets below above s from stands → stands ≡ true → r ≡ all_places_pass F offsets below above s
+  pub stands_on : {s from : ℕ} {stands : Bool} (r : Bool) → RestTested F steps s from r → KnownBelow F steps s from stands → stands ≡ true → r ≡ all_places_pass F steps s
   stands_on true w k e = sym (w.rest_passes_lem refl (k.standing e))
   stands_on false w k e = sym (w.not_all refl)
 
@@ -227,28 +217,28 @@ module _ (F offsets below above : List ℕ) where
 
   -- the columns below k are through, with their number, and the others are known as far as place `from`
   pub record Alone (s from k n : ℕ) (mask : List Bool) : Type 0 where
-    pub through : (i : ℕ) → i < length mask → i < k → get_or mask i false ≡ all_places_pass F offsets below above (s + i)
-    pub waiting : (i : ℕ) → i < length mask → k ≤ i → KnownBelow F offsets below above (s + i) from (get_or mask i false)
+    pub through : (i : ℕ) → i < length mask → i < k → get_or mask i false ≡ all_places_pass F steps (s + i)
+    pub waiting : (i : ℕ) → i < length mask → k ≤ i → KnownBelow F steps (s + i) from (get_or mask i false)
     pub number : CountedTo mask k n
 
-  pub alone_none : {s from : ℕ} {mask : List Bool} → Stands F offsets below above s from mask → Alone s from 0 0 mask
+  pub alone_none : {s from : ℕ} {mask : List Bool} → Stands F steps s from mask → Alone s from 0 0 mask
   alone_none {mask = mask} w =
       record { through = λ i h g. absurd (omega arith); waiting = λ i h g. record { standing = w.standing i h; fallen = w.fallen i h }; number = counted_none mask }
 
-  pub alone_more : {s from k n : ℕ} {mask : List Bool} (b : Bool) → Alone s from k n mask → k < length mask → b ≡ all_places_pass F offsets below above (s + k)
+  pub alone_more : {s from k n : ℕ} {mask : List Bool} (b : Bool) → Alone s from k n mask → k < length mask → b ≡ all_places_pass F steps (s + k)
       → Alone s from (k + 1) (n + bool_byte b) (set mask k b)
   alone_more {s} {from} {k} {n} {mask} b w inside e =
       let l = length-set mask k b in
       record {
         through = λ i h g.
-            ⊎_elim (λ (q : i ≡ k). stored mask k b i q inside ∙ e ∙ ap (λ a. all_places_pass F offsets below above (s + a)) (sym q))
+            ⊎_elim (λ (q : i ≡ k). stored mask k b i q inside ∙ e ∙ ap (λ a. all_places_pass F steps (s + a)) (sym q))
             (λ (q : i < k). other mask k b i (λ z. omega arith) ∙ w.through i (omega arith) q) (eq-or-lt_of_le (let z : i ≤ k = omega arith in z));
         waiting = λ i h g. rw (other mask k b i (λ z. omega arith)) (w.waiting i (omega arith) (omega arith));
         number = counted_more b w.number inside;
       }
 
   -- a mask that tells where all pass, and its number
-  pub told_all : {s n : ℕ} {mask : List Bool} → ((i : ℕ) → i < length mask → get_or mask i false ≡ all_places_pass F offsets below above (s + i)) → Counted mask n → BlockTested F offsets below above s n mask
+  pub told_all : {s n : ℕ} {mask : List Bool} → ((i : ℕ) → i < length mask → get_or mask i false ≡ all_places_pass F steps (s + i)) → Counted mask n → BlockTested F steps s n mask
   told_all f w =
       record {
         nowhere_passes = λ e i h. sym (f i h) ∙ w.none_left e i h;
@@ -256,12 +246,12 @@ module _ (F offsets below above : List ℕ) where
         told = λ e i h. f i h;
       }
 
-  pub alone_all : {s from k n : ℕ} {mask : List Bool} → Alone s from k n mask → length mask ≤ k → k ≤ length mask → BlockTested F offsets below above s n mask
-  alone_all w h g = told_all (λ i l. w.through i l (omega arith)) (counted_all w.number h g)
+  pub alone_all : {s from k n : ℕ} {mask : List Bool} → Alone s from k n mask → length mask ≤ k → k ≤ length mask → length mask ≤ 128 → BlockTested F steps s n mask
+  alone_all w h g f = told_all (λ i l. w.through i l (omega arith)) (counted_all w.number h g f)
 
   -- ---- a whole block
 
-  pub nowhere-told : {s done n : ℕ} {mask : List Bool} → Looked F offsets below above s done n mask → n ≡ 0 → BlockTested F offsets below above s n mask
+  pub nowhere-told : {s done n : ℕ} {mask : List Bool} → Looked F steps s done n mask → n ≡ 0 → BlockTested F steps s n mask
   nowhere-told {s} {done} {n} {mask} w e =
       record {
         nowhere_passes = λ z i h. gone i h;
@@ -269,22 +259,37 @@ module _ (F offsets below above : List ℕ) where
         told = λ f. absurd (f e);
       }
     where
-      gone : (i : ℕ) → i < length mask → all_places_pass F offsets below above (s + i) ≡ false
+      gone : (i : ℕ) → i < length mask → all_places_pass F steps (s + i) ≡ false
       gone i h = w.stands.fallen i h (w.counted.none_left e i h)
 
-  pub all_told : {s done n : ℕ} {mask : List Bool} → Looked F offsets below above s done n mask → length offsets ≤ done → BlockTested F offsets below above s n mask
+  pub all_told : {s done n : ℕ} {mask : List Bool} → Looked F steps s done n mask → length steps ≤ done → BlockTested F steps s n mask
   all_told {s} {done} {n} {mask} w h = told_all (λ i g. go i g (get_or mask i false) refl) w.counted
     where
-      end : done ≡ length offsets
+      end : done ≡ length steps
       end = let a = w.within in omega arith
 
-      go : (i : ℕ) → i < length mask → (b : Bool) → get_or mask i false ≡ b → b ≡ all_places_pass F offsets below above (s + i)
-      go i g true e = sym (ap (λ d. pass_below d F offsets below above (s + i)) (sym end) ∙ w.stands.standing i g e)
+      go : (i : ℕ) → i < length mask → (b : Bool) → get_or mask i false ≡ b → b ≡ all_places_pass F steps (s + i)
+      go i g true e = sym (ap (λ d. pass_below d F steps (s + i)) (sym end) ∙ w.stands.standing i g e)
       go i g false e = sym (w.stands.fallen i g e)
+
+-- ---- the steps from one on
+
+module _ (steps : List Step) (from i : ℕ) where
+  abbrev rest : List Step
+  rest = take (length steps - from) (drop from steps)
+
+  pub item_inside : from ≤ length steps → i < length rest → from + i < length steps
+  item_inside h g = let a = length-take (length steps - from) (drop from steps) in let b = length-drop from steps in omega arith
+
+  pub item_end : from ≤ length steps → length rest ≤ i → length steps ≤ from + i
+  item_end h g = let a = length-take (length steps - from) (drop from steps) in let b = length-drop from steps in omega arith
+
+  pub item_there : from + i < length steps → get_or rest i no_step ≡ get_or steps (from + i) no_step
+  item_there h = get_or-take (length steps - from) (drop from steps) i no_step (omega arith) ∙ get_or-drop from steps i no_step
 
 -- ---- the frame from a start on
 
-module _ (F offsets below above : List ℕ) (s : ℕ) where
+module _ (F : List ℕ) (steps : List Step) (s : ℕ) where
   -- what a slice of the frame from sample s on holds
   abbrev pub from : List ℕ
   from = take (length F - s) (drop s F)
@@ -295,13 +300,11 @@ module _ (F offsets below above : List ℕ) (s : ℕ) where
   long_there : s ≤ length F → length from ≡ length F - s
   long_there h = let a = length-take (length F - s) (drop s F) in let b = length-drop s F in omega arith
 
-  pub within_there : Within F offsets below above s 1 → Within from offsets below above 0 1
+  pub within_there : Within F steps s 1 → Within from steps 0 1
   within_there i =
       let t = i.start in
       let l = long_there (omega arith) in
       record {
-        below_room = i.below_room;
-        above_room = i.above_room;
         start = omega arith;
         inside = λ j g.
             let a = i.inside j g in
@@ -313,45 +316,45 @@ module _ (F offsets below above : List ℕ) (s : ℕ) where
             };
       }
 
-  step_there : (here low high : ℕ) → StepWithin F s 1 here low high → step_test from 0 here low high ≡ step_test F s here low high
-  step_there here low high i = go (eqb low high) (eqb low nowhere) (eqb high nowhere) refl refl refl
+  step_there : (p : Step) → StepWithin F s 1 p → step_test from 0 p ≡ step_test F s p
+  step_there p i = go (eqb p.below p.above) (eqb p.below nowhere) (eqb p.above nowhere) refl refl refl
     where
-      at_here : get_or from (0 + here) 0 ≡ get_or F (s + here) 0
-      at_here = let a = i.here_in in sample_there here (omega arith)
+      at_here : get_or from (0 + p.here) 0 ≡ get_or F (s + p.here) 0
+      at_here = let a = i.here_in in sample_there p.here (omega arith)
 
-      at_low : (low ≡ nowhere → ⊥) → get_or from (0 + low) 0 ≡ get_or F (s + low) 0
-      at_low f = let a = i.low_in f in sample_there low (omega arith)
+      at_low : (p.below ≡ nowhere → ⊥) → get_or from (0 + p.below) 0 ≡ get_or F (s + p.below) 0
+      at_low f = let a = i.low_in f in sample_there p.below (omega arith)
 
-      at_high : (high ≡ nowhere → ⊥) → get_or from (0 + high) 0 ≡ get_or F (s + high) 0
-      at_high f = let a = i.high_in f in sample_there high (omega arith)
+      at_high : (p.above ≡ nowhere → ⊥) → get_or from (0 + p.above) 0 ≡ get_or F (s + p.above) 0
+      at_high f = let a = i.high_in f in sample_there p.above (omega arith)
 
-      go : (a b c : Bool) → eqb low high ≡ a → eqb low nowhere ≡ b → eqb high nowhere ≡ c → step_test from 0 here low high ≡ step_test F s here low high
+      go : (a b c : Bool) → eqb p.below p.above ≡ a → eqb p.below nowhere ≡ b → eqb p.above nowhere ≡ c → step_test from 0 p ≡ step_test F s p
       go true b c x y z =
-          let e = eqb-true low high x in
-          one_near from 0 here low high e ∙ ap₂ eqb at_here (let a = i.one_in e in sample_there low (omega arith)) ∙ sym (one_near F s here low high e)
+          let e = eqb-true p.below p.above x in
+          one_near from 0 p e ∙ ap₂ eqb at_here (let a = i.one_in e in sample_there p.below (omega arith)) ∙ sym (one_near F s p e)
       go false true c x y z =
-          let e = eqb-false low high x in
-          let n = eqb-true low nowhere y in
-          high_near from 0 here low high e n ∙ ap₂ ltb at_here (at_high (λ q. e (n ∙ sym q))) ∙ sym (high_near F s here low high e n)
+          let e = eqb-false p.below p.above x in
+          let n = eqb-true p.below nowhere y in
+          high_near from 0 p e n ∙ ap₂ ltb at_here (at_high (λ q. e (n ∙ sym q))) ∙ sym (high_near F s p e n)
       go false false true x y z =
-          let e = eqb-false low high x in
-          let n = eqb-false low nowhere y in
-          let o = eqb-true high nowhere z in
-          low_near from 0 here low high e n o ∙ ap₂ ltb (at_low n) at_here ∙ sym (low_near F s here low high e n o)
+          let e = eqb-false p.below p.above x in
+          let n = eqb-false p.below nowhere y in
+          let o = eqb-true p.above nowhere z in
+          low_near from 0 p e n o ∙ ap₂ ltb (at_low n) at_here ∙ sym (low_near F s p e n o)
       go false false false x y z =
-          let e = eqb-false low high x in
-          let n = eqb-false low nowhere y in
-          let o = eqb-false high nowhere z in
-          both_near from 0 here low high e n o ∙ ap₂ ◌&&◌ (ap₂ ltb (at_low n) at_here) (ap₂ ltb at_here (at_high o)) ∙ sym (both_near F s here low high e n o)
+          let e = eqb-false p.below p.above x in
+          let n = eqb-false p.below nowhere y in
+          let o = eqb-false p.above nowhere z in
+          both_near from 0 p e n o ∙ ap₂ ◌&&◌ (ap₂ ltb (at_low n) at_here) (ap₂ ltb at_here (at_high o)) ∙ sym (both_near F s p e n o)
 
-  below_there : (j : ℕ) → j ≤ length offsets → Within F offsets below above s 1 → pass_below j from offsets below above 0 ≡ pass_below j F offsets below above s
+  below_there : (j : ℕ) → j ≤ length steps → Within F steps s 1 → pass_below j from steps 0 ≡ pass_below j F steps s
   unfolding pass_below step_passes_lem
-  below_there j h i = all_below_same j _ _ (λ k g. step_there (get_or offsets k 0) (get_or below k 0) (get_or above k 0) (i.inside k (omega arith)))
+  below_there j h i = all_below_same j _ _ (λ k g. step_there (get_or steps k no_step) (i.inside k (omega arith)))
 
   -- what is told of the rest there is told of the frame
-  pub rest_there : {k : ℕ} {r : Bool} → k ≤ length offsets → Within F offsets below above s 1 → RestTested from offsets below above 0 k r → RestTested F offsets below above s k r
+  pub rest_there : {k : ℕ} {r : Bool} → k ≤ length steps → Within F steps s 1 → RestTested from steps 0 k r → RestTested F steps s k r
   rest_there {k} h i w =
       record {
-        rest_passes_lem = λ e p. sym (below_there (length offsets) (omega arith) i) ∙ w.rest_passes_lem e (below_there k h i ∙ p);
-        not_all = λ e. sym (below_there (length offsets) (omega arith) i) ∙ w.not_all e;
+        rest_passes_lem = λ e p. sym (below_there (length steps) (omega arith) i) ∙ w.rest_passes_lem e (below_there k h i ∙ p);
+        not_all = λ e. sym (below_there (length steps) (omega arith) i) ∙ w.not_all e;
       }

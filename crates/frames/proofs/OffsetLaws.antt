@@ -4,20 +4,21 @@
 use Prim.Native.Nat.{ℕ, ◌+◌, ◌-◌, ◌*◌, ◌/◌, ◌%◌, ◌≤◌, ◌<◌}
 use mathlib.Core.Path.{◌≡◌, refl, sym, ◌∙◌, ap, ap₂, subst}
 use mathlib.Core.Logic.{⊎_elim}
-use mathlib.Core.List.{List}
+use mathlib.Core.List.{List, ◌++◌, append-nil}
 use mathlib.Core.Bool.{Bool, true, false}
 use native.Mathlib.Omega.{arith}
 use native.Mathlib.Nat.{add-mul, mul-le-mul_right, div-lt_iff_lt-mul, mod-lt, div-add-mod', eq-or-lt_of_le, lt_of_mul-lt-mul_right}
 use lib.Dec.{ltb, eqb}
 use lib.IntN.{pos}
-use lib.ListN.{length, get_or, take, drop}
-use lib.Seq.{take_at}
+use lib.ListN.{length, get_or, take, set, drop_of_length-le, length-take}
+use lib.Seq.{get_or-set_other}
 use borrow.Author.Tests.{ltb-true, ltb-false, eqb-true, eqb-false}
 use Rattle.order.specs.Sizes.{each}
-use Rattle.order.specs.Written.{over}
+use Rattle.order.proofs.Filling.{Filled, filled_none, filled_more, filled_at}
 use Rattle.order.proofs.Lists.{length-each, get_or-each, each_same}
 use Rattle.frames.specs.Frames.{level_at, under}
-use Rattle.frames.specs.Inside.{nowhere, offset_of, offsets_of, near_of, near_offsets, all_places_pass, pass_by_tables, Turned, LastFits, StepWithin, Within, RowsListed, Grid, OffsetsInside, PatchInside}
+use Rattle.frames.specs.declared.places.Step.{Step}
+use Rattle.frames.specs.Inside.{nowhere, no_step, here_at, offset_of, lone, offsets_of, near_of, near_step, near_steps, all_places_pass, pass_by_tables, Turned, LastFits, StepWithin, Within, RowsListed, Grid, OffsetsInside, PatchInside}
 use Rattle.frames.proofs.RowNumbers.{next_row, row_of, column_of}
 use Rattle.frames.proofs.StepLaws.{seen, Apart, near_there, near_none, near_self}
 use Rattle.frames.proofs.ListingLaws.{rows_same}
@@ -88,19 +89,14 @@ next_corner c = let p = c.place_is in let i = c.inside in record { row = c.row; 
 pub offset_fits : {pitch k m j start column : ℕ} → LastFits pitch k m → CornerIn pitch k j start column → j < m → start + column + 1 < 18446744073709551616
 offset_fits f c h = let p = c.place_is in let i = c.inside in let s = c.start_is in let g = f.fits c.row (omega arith) in omega arith
 
--- the front of a buffer that was written is what was written
-front_is : (l before : List ℕ) {m : ℕ} → length l ≡ m → take (m - 0) (over l before) ≡ l
-front_is l before {m} e = take_at l (drop (length l) before) (m - 0) (omega arith)
+-- all places of a buffer laid
+pub laid_whole : {f : ℕ → Step} {j : ℕ} {before now : List Step} → Filled f j before now → length before ≤ j → j ≤ length before → now ≡ each f (length before)
+laid_whole {f} {j} {before} w h g =
+    w.holds ∙ ap (λ l. each f j ++ l) (drop_of_length-le before h) ∙ append-nil (each f j) ∙ ap (each f) (let e : j ≡ length before = omega arith in e)
 
-offsets_front : (pitch k m : ℕ) (b : List ℕ) {offsets : List ℕ} → offsets ≡ over (offsets_of pitch k m) b → take (m - 0) offsets ≡ offsets_of pitch k m
-unfolding offsets_of
-offsets_front pitch k m b e = ap (take (m - 0)) e ∙ front_is (each (offset_of pitch k) m) b (length-each (offset_of pitch k) m)
-
-near_front : (offsets table others b : List ℕ) {near : List ℕ} → near ≡ over (near_offsets offsets table others) b → take (length offsets - 0) near ≡ near_offsets offsets table others
-unfolding near_offsets
-near_front offsets table others b e =
-    ap (take (length offsets - 0)) e ∙
-    front_is (each (λ j. near_of offsets j (get_or table j 0) (get_or others j 0)) (length offsets)) b (length-each (λ j. near_of offsets j (get_or table j 0) (get_or others j 0)) (length offsets))
+-- the part of an array that has as many steps as a patch has places
+pub room_long : (m : ℕ) (l : List Step) → m ≤ 1024 → length l ≡ 1024 → length (take (m - 0) l) ≡ m
+room_long m l h e = let a = length-take (m - 0) l in omega arith
 
 -- ---- inside the frame
 
@@ -134,20 +130,23 @@ module _ {F : List ℕ} {pitch width h k rows columns room : ℕ} (i : PatchInsi
       let e = i.across in
       omega arith
 
+  laid_at : (j : ℕ) → j < h * k → here_at (each (λ j. lone (offset_of pitch k j)) (h * k)) j ≡ offset_of pitch k j
+  laid_at j g = ap (λ (p : Step). p.here) (get_or-each (λ j. lone (offset_of pitch k j)) (h * k) j no_step g)
+
   -- no two places have one offset, and none has that of none
   pub offsets_apart : length F < 18446744073709551616 → Apart (offsets_of pitch k (h * k))
   unfolding offsets_of offset_of
   offsets_apart f =
-      let n = length-each (offset_of pitch k) (h * k) in
+      let n = length-each (λ j. lone (offset_of pitch k j)) (h * k) in
       record {
         distinct = λ a b p q e.
             let u : a < h * k = rw n at p in
             let v : b < h * k = rw n at q in
-            one_place a b (sym (get_or-each (offset_of pitch k) (h * k) a 0 u) ∙ e ∙ get_or-each (offset_of pitch k) (h * k) b 0 v);
+            one_place a b (sym (laid_at a u) ∙ e ∙ laid_at b v);
         somewhere = λ a p e.
             let u : a < h * k = rw n at p in
             let c = offset_inside 0 a i.some_rows u in
-            let d = get_or-each (offset_of pitch k) (h * k) a 0 u in
+            let d = laid_at a u in
             let g = i.some_columns in
             omega arith;
       }
@@ -166,17 +165,16 @@ module _ {F : List ℕ} {pitch width h k rows columns room : ℕ} (i : PatchInsi
   pub offsets_inside : {low high : List ℕ} → length F < 18446744073709551616 → h * k ≤ length low → h * k ≤ length high → OffsetsInside F (offsets_of pitch k (h * k)) low high pitch width rows columns room
   unfolding offsets_of
   offsets_inside {low} {high} fits l g =
-      let n = length-each (offset_of pitch k) (h * k) in
+      let n = length-each (λ j. lone (offset_of pitch k j)) (h * k) in
       let e = i.across in
       let o = i.one_column in
       let a = i.one_row in
       record {
         low_room = rw n l;
         high_room = rw n g;
-        few = rw n i.few;
         somewhere = (offsets_apart fits).somewhere;
         row_start = λ row q. let reach = row_reaches row (omega arith) in let d = i.last_row in omega arith;
-        row_inside = λ row j q z. let b : j < h * k = rw n at z in rw (get_or-each (offset_of pitch k) (h * k) j 0 b) (offset_inside row j q b);
+        row_inside = λ row j q z. let b : j < h * k = rw n at z in rw (laid_at j b) (offset_inside row j q b);
         few_rows = i.few_rows;
         few_columns = omega arith;
         narrow = i.narrow;
@@ -184,22 +182,19 @@ module _ {F : List ℕ} {pitch width h k rows columns room : ℕ} (i : PatchInsi
       }
 
 -- the places' neighbours lie inside where the places do
-pub grid : {F offsets low high : List ℕ} {pitch width rows columns room : ℕ} → OffsetsInside F offsets low high pitch width rows columns room
-    → Grid F offsets (near_offsets offsets low high) (near_offsets offsets high low) pitch width rows columns room
-unfolding near_offsets
+pub grid : {F : List ℕ} {offsets : List Step} {low high : List ℕ} {pitch width rows columns room : ℕ} → OffsetsInside F offsets low high pitch width rows columns room
+    → Grid F (near_steps offsets low high) pitch width rows columns room
+unfolding near_steps
 grid {F} {offsets} {low} {high} {pitch} {width} {rows} {columns} {room} i =
     let m = length offsets in
-    let l = length-each (λ j. near_of offsets j (get_or low j 0) (get_or high j 0)) m in
-    let g = length-each (λ j. near_of offsets j (get_or high j 0) (get_or low j 0)) m in
+    let l = length-each (λ j. near_step offsets j (get_or low j 0) (get_or high j 0)) m in
     record {
       row_within = λ row q.
           record {
-            below_room = omega arith;
-            above_room = omega arith;
             start = i.row_start row q;
             inside = λ j z.
-                rw (get_or-each (λ j. near_of offsets j (get_or low j 0) (get_or high j 0)) m j 0 z, get_or-each (λ j. near_of offsets j (get_or high j 0) (get_or low j 0)) m j 0 z)
-                (step-within row j q z (get_or low j 0) (get_or high j 0));
+                let g : j < m = rw l at z in
+                rw (get_or-each (λ j. near_step offsets j (get_or low j 0) (get_or high j 0)) m j no_step g) (step-within row j q g (get_or low j 0) (get_or high j 0));
           };
       few_rows = i.few_rows;
       few_columns = i.few_columns;
@@ -228,7 +223,7 @@ grid {F} {offsets} {low} {high} {pitch} {width} {rows} {columns} {room} i =
         go false true a b = let h = ltb-true other (length offsets) b in i.somewhere other h (sym (near_there offsets j other e h) ∙ sym s ∙ n)
         go false false a b = i.somewhere j z (sym (near_self offsets j e other (ltb-false e (length offsets) a) (ltb-false other (length offsets) b)) ∙ n)
 
-    step-within : (row j : ℕ) → row < rows → j < length offsets → (e other : ℕ) → StepWithin F (row * pitch) columns (get_or offsets j 0) (near_of offsets j e other) (near_of offsets j other e)
+    step-within : (row j : ℕ) → row < rows → j < length offsets → (e other : ℕ) → StepWithin F (row * pitch) columns (near_step offsets j e other)
     step-within row j q z e other =
         record {
           here_in = i.row_inside row j q z;
@@ -242,22 +237,20 @@ grid {F} {offsets} {low} {high} {pitch} {width} {rows} {columns} {room} i =
 pub seen_under : (F : List ℕ) (pitch h k row column : ℕ) → seen F (offsets_of pitch k (h * k)) (row * pitch + column) ≡ under F pitch h k row column
 unfolding seen under level_at offset_of offsets_of
 seen_under F pitch h k row column =
-    ap (each (λ j. pos (get_or F (row * pitch + column + get_or (each (offset_of pitch k) (h * k)) j 0) 0))) (length-each (offset_of pitch k) (h * k)) ∙
-    each_same (λ j. pos (get_or F (row * pitch + column + get_or (each (offset_of pitch k) (h * k)) j 0) 0)) (λ j. pos (get_or F ((row + j / k) * pitch + (column + j % k)) 0)) (h * k)
-    (λ j g. ap (λ n. pos (get_or F n 0)) (ap (λ n. row * pitch + column + n) (get_or-each (offset_of pitch k) (h * k) j 0 g) ∙ sum j))
+    ap (each (λ j. pos (get_or F (row * pitch + column + here_at (each (λ j. lone (offset_of pitch k j)) (h * k)) j) 0))) (length-each (λ j. lone (offset_of pitch k j)) (h * k)) ∙
+    each_same (λ j. pos (get_or F (row * pitch + column + here_at (each (λ j. lone (offset_of pitch k j)) (h * k)) j) 0)) (λ j. pos (get_or F ((row + j / k) * pitch + (column + j % k)) 0)) (h * k)
+    (λ j g. ap (λ n. pos (get_or F n 0)) (ap (λ n. row * pitch + column + n) (ap (λ (p : Step). p.here) (get_or-each (λ j. lone (offset_of pitch k j)) (h * k) j no_step g)) ∙ sum j))
   where
     sum : (j : ℕ) → row * pitch + column + offset_of pitch k j ≡ (row + j / k) * pitch + (column + j % k)
     sum j = let e = add-mul row (j / k) pitch in omega arith
 
-pub within_same : {F offsets below above : List ℕ} {s n m : ℕ} → m ≡ n → Within F offsets below above s n → Within F offsets below above s m
-within_same {F} {offsets} {below} {above} {s} e i = subst (λ (k : ℕ). Within F offsets below above s k) (sym e) i
+pub within_same : {F : List ℕ} {steps : List Step} {s n m : ℕ} → m ≡ n → Within F steps s n → Within F steps s m
+within_same {F} {steps} {s} e i = subst (λ (k : ℕ). Within F steps s k) (sym e) i
 
 -- a part of what lies within
-pub within-part : {F offsets below above : List ℕ} {s n : ℕ} (c w : ℕ) → Within F offsets below above s n → c + w ≤ n → Within F offsets below above (s + c) w
+pub within-part : {F : List ℕ} {steps : List Step} {s n : ℕ} (c w : ℕ) → Within F steps s n → c + w ≤ n → Within F steps (s + c) w
 within-part c w i h =
     record {
-      below_room = i.below_room;
-      above_room = i.above_room;
       start = let a = i.start in omega arith;
       inside = λ j g.
           let a = i.inside j g in
@@ -271,24 +264,66 @@ within-part c w i h =
 
 -- ---- what the functions that lay them out hand on
 
-module _ (F offsets low high b a : List ℕ) {below above : List ℕ} (e : below ≡ over (near_offsets offsets low high) b) (f : above ≡ over (near_offsets offsets high low) a) where
-  pub grid_laid : {pitch width rows columns room : ℕ} → OffsetsInside F offsets low high pitch width rows columns room
-      → Grid F offsets (take (length offsets - 0) below) (take (length offsets - 0) above) pitch width rows columns room
-  grid_laid i = rw (near_front offsets low high b e, near_front offsets high low a f) (grid i)
+module _ (F : List ℕ) (offsets : List Step) (low high : List ℕ) {steps : List Step} (e : steps ≡ near_steps offsets low high) where
+  pub grid_laid : {pitch width rows columns room : ℕ} → OffsetsInside F offsets low high pitch width rows columns room → Grid F steps pitch width rows columns room
+  grid_laid i = rw e (grid i)
 
   pub rows_laid : (pitch : ℕ) {width columns rows r : ℕ} {before after : List ℕ}
-      → RowsListed (λ row column. all_places_pass F offsets (take (length offsets - 0) below) (take (length offsets - 0) above) (row * pitch + column)) width columns rows before r after
+      → RowsListed (λ row column. all_places_pass F steps (row * pitch + column)) width columns rows before r after
       → RowsListed (λ row column. pass_by_tables F offsets low high (row * pitch + column)) width columns rows before r after
   unfolding pass_by_tables
-  rows_laid pitch w =
-      rows_same w (λ row column h g. ap₂ (λ l u. all_places_pass F offsets l u (row * pitch + column)) (near_front offsets low high b e) (near_front offsets high low a f))
+  rows_laid pitch w = rows_same w (λ row column h g. ap (λ l. all_places_pass F l (row * pitch + column)) e)
 
-module _ (F b low high : List ℕ) {offsets : List ℕ} (pitch k m : ℕ) (e : offsets ≡ over (offsets_of pitch k m) b) where
+module _ (F low high : List ℕ) {offsets : List Step} (pitch k m : ℕ) (e : offsets ≡ offsets_of pitch k m) where
   pub offsets_laid : {width rows columns room : ℕ} → OffsetsInside F (offsets_of pitch k m) low high pitch width rows columns room
-      → OffsetsInside F (take (m - 0) offsets) low high pitch width rows columns room
-  offsets_laid i = rw (offsets_front pitch k m b e) i
+      → OffsetsInside F offsets low high pitch width rows columns room
+  offsets_laid i = rw e i
 
   pub rows_by_offsets : {width columns rows r : ℕ} {before after : List ℕ}
-      → RowsListed (λ row column. pass_by_tables F (take (m - 0) offsets) low high (row * pitch + column)) width columns rows before r after
+      → RowsListed (λ row column. pass_by_tables F offsets low high (row * pitch + column)) width columns rows before r after
       → RowsListed (λ row column. pass_by_tables F (offsets_of pitch k m) low high (row * pitch + column)) width columns rows before r after
-  rows_by_offsets w = rows_same w (λ row column h g. ap (λ l. pass_by_tables F l low high (row * pitch + column)) (offsets_front pitch k m b e))
+  rows_by_offsets w = rows_same w (λ row column h g. ap (λ l. pass_by_tables F l low high (row * pitch + column)) e)
+
+-- ---- neighbours laid beside the offsets, one place a turn
+
+-- where no offset has moved a neighbour's is the same
+near_kept : (before now : List Step) → length now ≡ length before → ((i : ℕ) → here_at now i ≡ here_at before i) → (j e other : ℕ) → near_of now j e other ≡ near_of before j e other
+unfolding near_of
+near_kept before now l f j e other = rw (l, f e, f j) refl
+
+-- the places below j have their neighbours, and the others are as they were
+pub record NearTo (low high : List ℕ) (j : ℕ) (before now : List Step) : Type 0 where
+  pub laid : Filled (λ i. near_step before i (get_or low i 0) (get_or high i 0)) j before now
+  pub waiting : (i : ℕ) → j ≤ i → get_or now i no_step ≡ get_or before i no_step
+
+pub near_to_none : (low high : List ℕ) (before : List Step) → NearTo low high 0 before before
+near_to_none low high before = record { laid = filled_none (λ i. near_step before i (get_or low i 0) (get_or high i 0)) before; waiting = λ i h. refl }
+
+module _ {low high : List ℕ} {j : ℕ} {before now : List Step} (w : NearTo low high j before now) where
+  abbrev f : ℕ → Step
+  f i = near_step before i (get_or low i 0) (get_or high i 0)
+
+  -- a place's own offset stays
+  here_kept : (i : ℕ) → here_at now i ≡ here_at before i
+  here_kept i = go (ltb i j) refl
+    where
+      go : (t : Bool) → ltb i j ≡ t → here_at now i ≡ here_at before i
+      go true e = ap (λ (p : Step). p.here) (filled_at f i no_step w.laid (ltb-true i j e))
+      go false e = ap (λ (p : Step). p.here) (w.waiting i (ltb-false i j e))
+
+  pub near_there_still : {below above : ℕ} → below ≡ near_of now j (get_or low j 0) (get_or high j 0) → above ≡ near_of now j (get_or high j 0) (get_or low j 0)
+      → (here : ℕ) → here ≡ here_at now j → ◌≡◌ {A = Step} (record { here = here; below = below; above = above }) (f j)
+  near_there_still b a here e =
+      let k = near_kept before now w.laid.long here_kept in
+      rw (e ∙ here_kept j, b ∙ k j (get_or low j 0) (get_or high j 0), a ∙ k j (get_or high j 0) (get_or low j 0)) refl
+
+  pub near_to_more : {p : Step} → j < length before → p ≡ f j → NearTo low high (j + 1) before (set now j p)
+  near_to_more {p} h e =
+      record {
+        laid = filled_more f w.laid h e;
+        waiting = λ i g. get_or-set_other now j i p no_step (λ z. omega arith) ∙ w.waiting i (omega arith);
+      }
+
+  pub near_to_all : length before ≤ j → j ≤ length before → now ≡ near_steps before low high
+  unfolding near_steps
+  near_to_all h g = laid_whole w.laid h g

@@ -4,6 +4,7 @@ use Rattle.order.specs.Sizes.{each, those}
 use Rattle.order.specs.Isomorphic.{all_below}
 use Rattle.order.specs.Written.{over, filled}
 use Rattle.frame_sizes.specs.FrameSizes.{places_of}
+use Rattle.frames.specs.declared.places.Step.{Step}
 use Rattle.frames.specs.Frames.{rows_listed, places_listed}
 
 -- ---- the patch over the frame
@@ -12,21 +13,37 @@ use Rattle.frames.specs.Frames.{rows_listed, places_listed}
 abbrev pub nowhere : ℕ
 nowhere = 18446744073709551615
 
+-- of no place
+abbrev pub no_step : Step
+no_step = record { here = 0; below = 0; above = 0 }
+
+-- a place's own offset
+abbrev pub here_at : List Step → ℕ → ℕ
+here_at steps j = (get_or steps j no_step).here
+
 -- how far place j of a patch of k columns lies from its first sample, in the frame
 unfoldable pub offset_of : ℕ → ℕ → ℕ → ℕ
 offset_of pitch k j = (j / k) * pitch + j % k
 
+-- a place whose neighbours are not laid yet
+abbrev pub lone : ℕ → Step
+lone offset = record { here = offset; below = 0; above = 0 }
+
 -- those of m places
-unfoldable pub offsets_of : ℕ → ℕ → ℕ → List ℕ
-offsets_of pitch k m = each (offset_of pitch k) m
+unfoldable pub offsets_of : ℕ → ℕ → ℕ → List Step
+offsets_of pitch k m = each (λ j. lone (offset_of pitch k j)) m
 
 -- the offset of the place that an entry of place j names; where it names none, none if the other entry names one, else place j's own
-unfoldable pub near_of : List ℕ → ℕ → ℕ → ℕ → ℕ
-near_of offsets j e other = cond (ltb e (length offsets)) (get_or offsets e 0) (cond (ltb other (length offsets)) nowhere (get_or offsets j 0))
+unfoldable pub near_of : List Step → ℕ → ℕ → ℕ → ℕ
+near_of steps j e other = cond (ltb e (length steps)) (here_at steps e) (cond (ltb other (length steps)) nowhere (here_at steps j))
 
--- those of all places, by a table and the other
-unfoldable pub near_offsets : List ℕ → List ℕ → List ℕ → List ℕ
-near_offsets offsets table others = each (λ j. near_of offsets j (get_or table j 0) (get_or others j 0)) (length offsets)
+-- place j with its neighbours, by its two entries
+abbrev pub near_step : List Step → ℕ → ℕ → ℕ → Step
+near_step steps j low high = record { here = here_at steps j; below = near_of steps j low high; above = near_of steps j high low }
+
+-- all places with their neighbours, by the two tables
+unfoldable pub near_steps : List Step → List ℕ → List ℕ → List Step
+near_steps steps low high = each (λ j. near_step steps j (get_or low j 0) (get_or high j 0)) (length steps)
 
 -- the place behind column `column` of a row that starts at `start`: there, or at the start of the next row
 pub record Turned (start column k pitch start' column' : ℕ) : Type 0 where
@@ -38,53 +55,52 @@ pub record LastFits (pitch k m : ℕ) : Type 0 where
   pub some : 0 < k
   pub fits : (row : ℕ) → row * k < m → row * pitch + k < 18446744073709551616
 
--- the test of a place of the patch on the frame's samples, if the patch's first sample lies on sample s: by the offsets of the place and
--- of its two neighbours
-unfoldable pub step_test : List ℕ → ℕ → ℕ → ℕ → ℕ → Bool
-step_test F s here low high =
-    cond (eqb low high) (eqb (get_or F (s + here) 0) (get_or F (s + low) 0))
-    (cond (eqb low nowhere) (ltb (get_or F (s + here) 0) (get_or F (s + high) 0))
-    (cond (eqb high nowhere) (ltb (get_or F (s + low) 0) (get_or F (s + here) 0))
-    (ltb (get_or F (s + low) 0) (get_or F (s + here) 0) && ltb (get_or F (s + here) 0) (get_or F (s + high) 0))))
+-- the test of a place of the patch on the frame's samples, if the patch's first sample lies on sample s
+unfoldable pub step_test : List ℕ → ℕ → Step → Bool
+step_test F s p =
+    cond (eqb p.below p.above) (eqb (get_or F (s + p.here) 0) (get_or F (s + p.below) 0))
+    (cond (eqb p.below nowhere) (ltb (get_or F (s + p.here) 0) (get_or F (s + p.above) 0))
+    (cond (eqb p.above nowhere) (ltb (get_or F (s + p.below) 0) (get_or F (s + p.here) 0))
+    (ltb (get_or F (s + p.below) 0) (get_or F (s + p.here) 0) && ltb (get_or F (s + p.here) 0) (get_or F (s + p.above) 0))))
 
--- that of place j, by lists of offsets: the places', their low neighbours' and their high neighbours'
-unfoldable pub step_passes_lem : List ℕ → List ℕ → List ℕ → List ℕ → ℕ → ℕ → Bool
-step_passes_lem F offsets below above s j = step_test F s (get_or offsets j 0) (get_or below j 0) (get_or above j 0)
+-- that of place j
+unfoldable pub step_passes_lem : List ℕ → List Step → ℕ → ℕ → Bool
+step_passes_lem F steps s j = step_test F s (get_or steps j no_step)
 
 -- the places below j all pass; and all of them
-unfoldable pub pass_below : ℕ → List ℕ → List ℕ → List ℕ → List ℕ → ℕ → Bool
-pass_below j F offsets below above s = all_below j (step_passes_lem F offsets below above s)
+unfoldable pub pass_below : ℕ → List ℕ → List Step → ℕ → Bool
+pass_below j F steps s = all_below j (step_passes_lem F steps s)
 
-abbrev pub all_places_pass : List ℕ → List ℕ → List ℕ → List ℕ → ℕ → Bool
-all_places_pass F offsets below above s = pass_below (length offsets) F offsets below above s
+abbrev pub all_places_pass : List ℕ → List Step → ℕ → Bool
+all_places_pass F steps s = pass_below (length steps) F steps s
 
 -- the same by the tables of the neighbours' places
-unfoldable pub pass_by_tables : List ℕ → List ℕ → List ℕ → List ℕ → ℕ → Bool
-pass_by_tables F offsets low high s = all_places_pass F offsets (near_offsets offsets low high) (near_offsets offsets high low) s
+unfoldable pub pass_by_tables : List ℕ → List Step → List ℕ → List ℕ → ℕ → Bool
+pass_by_tables F steps low high s = all_places_pass F (near_steps steps low high) s
 
 -- over n neighbouring starts from s on a place and its neighbours lie inside the frame
-pub record StepWithin (F : List ℕ) (s n here low high : ℕ) : Type 0 where
-  pub here_in : s + here + n ≤ length F
-  pub one_in : low ≡ high → s + low + n ≤ length F
-  pub low_in : (low ≡ nowhere → ⊥) → s + low + n ≤ length F
-  pub high_in : (high ≡ nowhere → ⊥) → s + high + n ≤ length F
+pub record StepWithin (F : List ℕ) (s n : ℕ) (p : Step) : Type 0 where
+  pub here_in : s + p.here + n ≤ length F
+  pub one_in : p.below ≡ p.above → s + p.below + n ≤ length F
+  pub low_in : (p.below ≡ nowhere → ⊥) → s + p.below + n ≤ length F
+  pub high_in : (p.above ≡ nowhere → ⊥) → s + p.above + n ≤ length F
 
 -- so does each place, and so do the starts
-pub record Within (F offsets below above : List ℕ) (s n : ℕ) : Type 0 where
-  pub below_room : length offsets ≤ length below
-  pub above_room : length offsets ≤ length above
+pub record Within (F : List ℕ) (steps : List Step) (s n : ℕ) : Type 0 where
   pub start : s + n ≤ length F
-  pub inside : (j : ℕ) → j < length offsets → StepWithin F s n (get_or offsets j 0) (get_or below j 0) (get_or above j 0)
+  pub inside : (j : ℕ) → j < length steps → StepWithin F s n (get_or steps j no_step)
 
 -- ---- masks
 
--- a number that is 0 only if none of a mask stands, and its length only if all do
+-- a number that is 0 only if none of a mask stands, and its length only if all do. A mask is of so few columns that eight bits hold their number
 pub record Counted (mask : List Bool) (n : ℕ) : Type 0 where
+  pub few : length mask ≤ 128
   pub none_left : n ≡ 0 → (i : ℕ) → i < length mask → get_or mask i false ≡ false
   pub all_left : n ≡ length mask → (i : ℕ) → i < length mask → get_or mask i false ≡ true
 
 -- all of a mask stands
 pub record AllStand (mask : List Bool) : Type 0 where
+  pub few : length mask ≤ 128
   pub stands : (i : ℕ) → i < length mask → get_or mask i false ≡ true
 
 -- what stood in a mask and passes a test stands after it
@@ -93,31 +109,31 @@ pub record Narrowed (t : ℕ → Bool) (before : List Bool) (r : ℕ) (after : L
   pub counted : Counted after r
 
 -- where a mask of the starts from s on stands the places below j pass, and where it has fallen not all do
-pub record Stands (F offsets below above : List ℕ) (s j : ℕ) (mask : List Bool) : Type 0 where
-  pub standing : (i : ℕ) → i < length mask → get_or mask i false ≡ true → pass_below j F offsets below above (s + i) ≡ true
-  pub fallen : (i : ℕ) → i < length mask → get_or mask i false ≡ false → all_places_pass F offsets below above (s + i) ≡ false
+pub record Stands (F : List ℕ) (steps : List Step) (s j : ℕ) (mask : List Bool) : Type 0 where
+  pub standing : (i : ℕ) → i < length mask → get_or mask i false ≡ true → pass_below j F steps (s + i) ≡ true
+  pub fallen : (i : ℕ) → i < length mask → get_or mask i false ≡ false → all_places_pass F steps (s + i) ≡ false
 
 -- a mask after `done` of the places
-pub record Looked (F offsets below above : List ℕ) (s done standing : ℕ) (mask : List Bool) : Type 0 where
-  pub within : done ≤ length offsets
-  pub stands : Stands F offsets below above s done mask
+pub record Looked (F : List ℕ) (steps : List Step) (s done standing : ℕ) (mask : List Bool) : Type 0 where
+  pub within : done ≤ length steps
+  pub stands : Stands F steps s done mask
   pub counted : Counted mask standing
 
 -- a mask after all of them, and its number
-pub record BlockTested (F offsets below above : List ℕ) (s r : ℕ) (mask : List Bool) : Type 0 where
-  pub nowhere_passes : r ≡ 0 → (i : ℕ) → i < length mask → all_places_pass F offsets below above (s + i) ≡ false
-  pub all_pass : r ≡ length mask → (i : ℕ) → i < length mask → all_places_pass F offsets below above (s + i) ≡ true
-  pub told : (r ≡ 0 → ⊥) → (i : ℕ) → i < length mask → get_or mask i false ≡ all_places_pass F offsets below above (s + i)
+pub record BlockTested (F : List ℕ) (steps : List Step) (s r : ℕ) (mask : List Bool) : Type 0 where
+  pub nowhere_passes : r ≡ 0 → (i : ℕ) → i < length mask → all_places_pass F steps (s + i) ≡ false
+  pub all_pass : r ≡ length mask → (i : ℕ) → i < length mask → all_places_pass F steps (s + i) ≡ true
+  pub told : (r ≡ 0 → ⊥) → (i : ℕ) → i < length mask → get_or mask i false ≡ all_places_pass F steps (s + i)
 
 -- the places from `from` on pass, or not all places do
-pub record RestTested (F offsets below above : List ℕ) (s from : ℕ) (r : Bool) : Type 0 where
-  pub rest_passes_lem : r ≡ true → pass_below from F offsets below above s ≡ true → all_places_pass F offsets below above s ≡ true
-  pub not_all : r ≡ false → all_places_pass F offsets below above s ≡ false
+pub record RestTested (F : List ℕ) (steps : List Step) (s from : ℕ) (r : Bool) : Type 0 where
+  pub rest_passes_lem : r ≡ true → pass_below from F steps s ≡ true → all_places_pass F steps s ≡ true
+  pub not_all : r ≡ false → all_places_pass F steps s ≡ false
 
 -- what is known of a column's places before the rest of them: it stands, and those below `from` pass, or it has fallen
-pub record KnownBelow (F offsets below above : List ℕ) (s from : ℕ) (stands : Bool) : Type 0 where
-  pub standing : stands ≡ true → pass_below from F offsets below above s ≡ true
-  pub fallen : stands ≡ false → all_places_pass F offsets below above s ≡ false
+pub record KnownBelow (F : List ℕ) (steps : List Step) (s from : ℕ) (stands : Bool) : Type 0 where
+  pub standing : stands ≡ true → pass_below from F steps s ≡ true
+  pub fallen : stands ≡ false → all_places_pass F steps s ≡ false
 
 -- ---- lists of places
 
@@ -142,21 +158,20 @@ pub record PlacesWritten (F : List ℕ) (height width pitch : ℕ) (Q : List ℕ
 -- ---- what is asked of those who look at whole frames
 
 -- the places tried are inside: at each row over all columns
-pub record Grid (F offsets below above : List ℕ) (pitch width rows columns room : ℕ) : Type 0 where
-  pub row_within : (row : ℕ) → row < rows → Within F offsets below above (row * pitch) columns
+pub record Grid (F : List ℕ) (steps : List Step) (pitch width rows columns room : ℕ) : Type 0 where
+  pub row_within : (row : ℕ) → row < rows → Within F steps (row * pitch) columns
   pub few_rows : rows ≤ 1024
   pub few_columns : columns ≤ width
   pub narrow : width ≤ 1024
   pub enough_room : rows * columns ≤ room
 
 -- the same by the offsets of the patch's places alone, and room for their neighbours
-pub record OffsetsInside (F offsets low high : List ℕ) (pitch width rows columns room : ℕ) : Type 0 where
-  pub low_room : length offsets ≤ length low
-  pub high_room : length offsets ≤ length high
-  pub few : length offsets ≤ 1024
-  pub somewhere : (j : ℕ) → j < length offsets → get_or offsets j 0 ≡ nowhere → ⊥
+pub record OffsetsInside (F : List ℕ) (steps : List Step) (low high : List ℕ) (pitch width rows columns room : ℕ) : Type 0 where
+  pub low_room : length steps ≤ length low
+  pub high_room : length steps ≤ length high
+  pub somewhere : (j : ℕ) → j < length steps → here_at steps j ≡ nowhere → ⊥
   pub row_start : (row : ℕ) → row < rows → row * pitch + columns ≤ length F
-  pub row_inside : (row j : ℕ) → row < rows → j < length offsets → row * pitch + get_or offsets j 0 + columns ≤ length F
+  pub row_inside : (row j : ℕ) → row < rows → j < length steps → row * pitch + here_at steps j + columns ≤ length F
   pub few_rows : rows ≤ 1024
   pub few_columns : columns ≤ width
   pub narrow : width ≤ 1024

@@ -1,11 +1,8 @@
-// What a search of a frame answers. Follows docs/RULES.md, "Frames": specs/FramePromise.antt gives each case its number and place. A type
-// alone.
+// What a search of a frame tells where it is not refused. Follows docs/RULES.md, "Frames". A type alone.
 
-use order::Refusal;
-
-// The places tried and how many of them are listed, or why the call is refused.
+// The places tried, and how many of them are listed.
 #[derive(Clone, Copy)]
-pub enum Sighted {
-    Done { places: usize, found: usize },
-    Refused(Refusal),
+pub struct Sighted {
+    pub places: usize,
+    pub found: usize,
 }

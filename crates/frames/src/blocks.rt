@@ -6,10 +6,10 @@
 // neighbours and fells more columns than an early one. Where a few columns stand after some places each goes on alone: most of a mask that
 // nearly all have left is work for nothing. Places pass or fail each by itself, so their order changes no answer.
 
-ghost use Rattle.std.specs.Prelude.{◌&&◌, ◌+◌, ◌≤◌, ◌<◌, ltb, eqb, length, get_or};
+ghost use Rattle.std.specs.Prelude.{◌≡◌, ℕ, ◌+◌, ◌≤◌, ◌<◌, Bool, length};
 ghost use Rattle.frames.specs.Inside.{step_test, StepWithin, Within, Counted, Narrowed, Stands, Looked, BlockTested};
 
-use crate::places::{NOWHERE, still_stands};
+use crate::places::{NOWHERE, Step, still_stands};
 
 // How many columns are looked at together.
 pub(crate) const BLOCK: usize = 128;
@@ -22,75 +22,48 @@ const SOME_PLACES: usize = 16;
 // So many of the last places are tried first, of patches with more than four times as many.
 const LAST_PLACES: usize = 4;
 
-// Where the samples from a on are less than those from b on.
-fn narrow_less(frame: &[u16], a: usize, b: usize, mask: &mut [bool]) -> u8
-    requires { (a + length mask.old ≤ length frame.now) × (b + length mask.old ≤ length frame.now) × (length mask.old ≤ 128) }
-    ensures { Narrowed (λ i. ltb (get_or frame.now (a + i) 0) (get_or frame.now (b + i) 0)) mask.old result mask.new }
+// Thins a mask out by a test of its columns' numbers; answers a number of those that stand then. Each of the tests below makes a loop of its
+// own, of sixteen columns a turn.
+fn narrow_where<F: Fn(usize) -> bool>(mask: &mut [bool], passes: F) -> u8
+    requires callable { (i : ℕ) → i < length mask.old → F.pre passes i }
+    requires few { length mask.old ≤ 128 }
+    ensures { (t : ℕ → Bool) → ((i : ℕ) (r : Bool) → i < length mask.old → F.post passes i r → r ≡ t i) → Narrowed t mask.old result mask.new }
 {
     let mut standing: u8 = 0;
-    for i in 0..mask.len() {
-        let stands = mask[i] & (frame[a + i] < frame[b + i]);
-        mask[i] = stands;
-        standing = standing + (stands as u8);
-    }
-    standing
-}
-
-// Where they are equal.
-fn narrow_equal(frame: &[u16], a: usize, b: usize, mask: &mut [bool]) -> u8
-    requires { (a + length mask.old ≤ length frame.now) × (b + length mask.old ≤ length frame.now) × (length mask.old ≤ 128) }
-    ensures { Narrowed (λ i. eqb (get_or frame.now (a + i) 0) (get_or frame.now (b + i) 0)) mask.old result mask.new }
-{
-    let mut standing: u8 = 0;
-    for i in 0..mask.len() {
-        let stands = mask[i] & (frame[a + i] == frame[b + i]);
-        mask[i] = stands;
-        standing = standing + (stands as u8);
-    }
-    standing
-}
-
-// Where those from a on are less than those from b on, and these than those from c on.
-fn narrow_between(frame: &[u16], a: usize, b: usize, c: usize, mask: &mut [bool]) -> u8
-    requires { (a + length mask.old ≤ length frame.now) × (b + length mask.old ≤ length frame.now) × (c + length mask.old ≤ length frame.now) × (length mask.old ≤ 128) }
-    ensures { Narrowed (λ i. ltb (get_or frame.now (a + i) 0) (get_or frame.now (b + i) 0) && ltb (get_or frame.now (b + i) 0) (get_or frame.now (c + i) 0)) mask.old result mask.new }
-{
-    let mut standing: u8 = 0;
-    for i in 0..mask.len() {
-        let here = frame[b + i];
-        let stands = mask[i] & ((frame[a + i] < here) & (here < frame[c + i]));
-        mask[i] = stands;
-        standing = standing + (stands as u8);
+    for (i, stands) in mask.iter_mut().enumerate() {
+        *stands = *stands & passes(i);
+        standing += *stands as u8;
     }
     standing
 }
 
 // Where a place passes its test, of the starts from `at` on, by its offset and its neighbours'. One with no neighbour passes everywhere.
-fn narrow(
-    frame: &[u16],
-    at: usize,
-    here: usize,
-    low: usize,
-    high: usize,
-    mask: &mut [bool],
-    standing: u8,
-) -> u8
-    requires { StepWithin frame.now at (length mask.old) here low high × Counted mask.old standing × (length mask.old ≤ 128) }
-    ensures { Narrowed (λ i. step_test frame.now (at + i) here low high) mask.old result mask.new }
+fn narrow(frame: &[u16], at: usize, step: Step, mask: &mut [bool], standing: u8) -> u8
+    requires { StepWithin frame.now at (length mask.old) step × Counted mask.old standing }
+    ensures { Narrowed (λ i. step_test frame.now (at + i) step) mask.old result mask.new }
 {
-    if low == high {
-        if low == here {
+    let Step { here, below, above } = step;
+    let own = at + here;
+    if below == above {
+        if below == here {
             return standing;
         }
-        return narrow_equal(frame, at + here, at + low, mask);
+        let low = at + below;
+        return narrow_where(mask, |i| frame[own + i] == frame[low + i]);
     }
-    if low == NOWHERE {
-        return narrow_less(frame, at + here, at + high, mask);
+    if below == NOWHERE {
+        let high = at + above;
+        return narrow_where(mask, |i| frame[own + i] < frame[high + i]);
     }
-    if high == NOWHERE {
-        return narrow_less(frame, at + low, at + here, mask);
+    let low = at + below;
+    if above == NOWHERE {
+        return narrow_where(mask, |i| frame[low + i] < frame[own + i]);
     }
-    narrow_between(frame, at + low, at + here, at + high, mask)
+    let high = at + above;
+    narrow_where(mask, |i| {
+        let here = frame[own + i];
+        (frame[low + i] < here) & (here < frame[high + i])
+    })
 }
 
 // The first of the places that are tried before the others. A small patch has none: there they would be tried twice for little.
@@ -103,25 +76,15 @@ fn first_late(m: usize) -> usize
     m - LAST_PLACES
 }
 
-// The last places, as long as any column stands; answers a number of those that do.
-fn look_late(
-    frame: &[u16],
-    offsets: &[usize],
-    below: &[usize],
-    above: &[usize],
-    at: usize,
-    mask: &mut [bool],
-    all: u8,
-) -> u8
-    requires { Within frame.now offsets.now below.now above.now at (length mask.old) × Looked frame.now offsets.now below.now above.now at 0 all mask.old × (length mask.old ≤ 128) }
-    ensures { Looked frame.now offsets.now below.now above.now at 0 result mask.new }
+// The last places, as long as any column stands; answers a number of those that do. Apart from `look`, which goes the other way, ends sooner
+// and learns that places pass: one function for both would take all three from its caller.
+fn look_late(frame: &[u16], steps: &[Step], at: usize, mask: &mut [bool], all: u8) -> u8
+    requires { Within frame.now steps.now at (length mask.old) × Looked frame.now steps.now at 0 all mask.old }
+    ensures { Looked frame.now steps.now at 0 result mask.new }
 {
     let mut standing = all;
-    let mut j = offsets.len();
-    let end = first_late(j);
-    while end < j {
-        j -= 1;
-        standing = narrow(frame, at, offsets[j], below[j], above[j], mask, standing);
+    for j in (first_late(steps.len())..steps.len()).rev() {
+        standing = narrow(frame, at, steps[j], mask, standing);
         if standing == 0 {
             return standing;
         }
@@ -145,87 +108,54 @@ fn limit_after(done: usize) -> u8 {
 }
 
 // Place after place, as long as enough stand.
-fn look(
-    frame: &[u16],
-    offsets: &[usize],
-    below: &[usize],
-    above: &[usize],
-    at: usize,
-    mask: &mut [bool],
-    late: u8,
-) -> Glance
-    requires { Within frame.now offsets.now below.now above.now at (length mask.old) × Looked frame.now offsets.now below.now above.now at 0 late mask.old × (length mask.old ≤ 128) }
-    ensures { Looked frame.now offsets.now below.now above.now at result.done result.standing mask.new }
+fn look(frame: &[u16], steps: &[Step], at: usize, mask: &mut [bool], late: u8) -> Glance
+    requires { Within frame.now steps.now at (length mask.old) × Looked frame.now steps.now at 0 late mask.old }
+    ensures { Looked frame.now steps.now at result.done result.standing mask.new }
 {
-    let tried = offsets.len() - first_late(offsets.len());
+    let tried = steps.len() - first_late(steps.len());
     let mut standing = late;
-    let mut done: usize = 0;
-    while done < offsets.len() {
-        standing = narrow(
-            frame,
-            at,
-            offsets[done],
-            below[done],
-            above[done],
-            mask,
-            standing,
-        );
-        done += 1;
+    for (j, step) in steps.iter().enumerate() {
+        standing = narrow(frame, at, *step, mask, standing);
+        let done = j + 1;
         if standing <= limit_after(tried + done) {
             return Glance { done, standing };
         }
     }
+    let done = steps.len();
     Glance { done, standing }
 }
 
 // The places from `from` on, for each column that stands.
-fn look_alone(
-    frame: &[u16],
-    offsets: &[usize],
-    below: &[usize],
-    above: &[usize],
-    at: usize,
-    from: usize,
-    mask: &mut [bool],
-) -> u8
-    requires { Within frame.now offsets.now below.now above.now at (length mask.old) × Stands frame.now offsets.now below.now above.now at from mask.old × (from ≤ length offsets.now) × (length mask.old ≤ 128) }
-    ensures { BlockTested frame.now offsets.now below.now above.now at result mask.new }
+fn look_alone(frame: &[u16], steps: &[Step], at: usize, from: usize, mask: &mut [bool]) -> u8
+    requires { Within frame.now steps.now at (length mask.old) × Stands frame.now steps.now at from mask.old × (from ≤ length steps.now) × (length mask.old ≤ 128) }
+    ensures { BlockTested frame.now steps.now at result mask.new }
 {
     let mut standing: u8 = 0;
-    for i in 0..mask.len() {
-        let stands = still_stands(mask[i], frame, offsets, below, above, at + i, from);
-        mask[i] = stands;
-        standing = standing + (stands as u8);
+    for (i, stands) in mask.iter_mut().enumerate() {
+        *stands = still_stands(*stands, frame, steps, at + i, from);
+        standing += *stands as u8;
     }
     standing
 }
 
 // Where all places pass; `all` is the number of columns. The answer is 0 only if that is nowhere, and then the mask tells nothing; and it is
 // the number of columns only if it is everywhere.
-pub(crate) fn test_block(
-    frame: &[u16],
-    offsets: &[usize],
-    below: &[usize],
-    above: &[usize],
-    at: usize,
-    mask: &mut [bool],
-    all: u8,
-) -> u8
-    requires { Within frame.now offsets.now below.now above.now at (length mask.old) × Looked frame.now offsets.now below.now above.now at 0 all mask.old × (length mask.old ≤ 128) }
-    ensures { BlockTested frame.now offsets.now below.now above.now at result mask.new }
+pub(crate) fn test_block(frame: &[u16], steps: &[Step], at: usize, mask: &mut [bool], all: u8) -> u8
+    requires { Within frame.now steps.now at (length mask.old) × Looked frame.now steps.now at 0 all mask.old }
+    ensures { BlockTested frame.now steps.now at result mask.new }
 {
-    let late = look_late(frame, offsets, below, above, at, mask, all);
+    let late = look_late(frame, steps, at, mask, all);
     if late == 0 {
         return late;
     }
-    let glance = look(frame, offsets, below, above, at, mask, late);
+    let glance = look(frame, steps, at, mask, late);
     let done = glance.done;
     let standing = glance.standing;
     if standing == 0 {
         return standing;
     }
-    if done < offsets.len() {
-        return look_alone(frame, offsets, below, above, at, done, mask);
+    if done < steps.len() {
+        return look_alone(frame, steps, at, done, mask);
     }
     standing
 }

@@ -2,19 +2,17 @@
 // the patch is laid on the frame.
 //
 // Follows docs/RULES.md, "Neighbours" and "Frames". The neighbours take most of it, m² / 2 steps by eights for a patch of m samples. 28 KB
-// of stack: the two tables, and three offsets a place. Callers hand over a patch within its limit, and rows and columns at which it lies inside
-// the frame.
+// of stack: the two tables, and a step of three offsets for each place. Callers hand over a patch within its limit, and rows and columns at
+// which it lies inside the frame.
 
 ghost use Rattle.std.specs.Prelude.{◌≡◌, ◌+◌, ◌*◌, ◌≤◌, ◌<◌, length};
-ghost use Rattle.order.specs.Written.{over};
 ghost use Rattle.frames.specs.Frames.{matches_at};
-ghost use Rattle.frames.specs.Inside.{offsets_of, near_of, near_offsets, pass_by_tables, Turned, LastFits, RowsListed, OffsetsInside, PatchInside};
+ghost use Rattle.frames.specs.Inside.{offsets_of, near_of, near_steps, pass_by_tables, Turned, LastFits, RowsListed, OffsetsInside, PatchInside};
 
-use crate::places::NOWHERE;
+use crate::places::{NOWHERE, Step};
 use crate::rows::search_rows;
 use frame_sizes::PATCH_LIMIT;
 use levels::level_neighbours;
-use words::wide16;
 
 // Where a place of the patch lies: how far its row starts from the first, and its column.
 #[derive(Clone, Copy)]
@@ -37,52 +35,60 @@ fn turned(start: usize, column: usize, k: usize, pitch: usize) -> Corner
     Corner { start, column }
 }
 
-// The offsets of the first m places of a patch of k columns, row by row.
-fn lay_offsets(pitch: usize, k: usize, m: usize, offsets: &mut [usize])
-    requires { LastFits pitch k m × (m ≤ length offsets.old) }
-    ensures { offsets.new ≡ over (offsets_of pitch k m) offsets.old }
+// The offsets of the places of a patch of k columns, row by row. Their neighbours' come later.
+fn lay_offsets(pitch: usize, k: usize, steps: &mut [Step])
+    requires { LastFits pitch k (length steps.old) }
+    ensures { steps.new ≡ offsets_of pitch k (length steps.old) }
 {
     let mut start: usize = 0;
     let mut column: usize = 0;
-    for j in 0..m {
+    for step in steps.iter_mut() {
         let corner = turned(start, column, k, pitch);
         start = corner.start;
         column = corner.column;
-        offsets[j] = start + column;
+        *step = Step {
+            here: start + column,
+            below: 0,
+            above: 0,
+        };
         column += 1;
     }
 }
 
 // The offset of the place that an entry of place j names. Where it names none, that is told; but a place whose other entry names none either
 // stands for its neighbours itself, so that a test needs no look for none where the two are one.
-fn near_offset(offsets: &[usize], j: usize, entry: u16, other: u16) -> usize
-    requires { j < length offsets.now }
-    ensures { result ≡ near_of offsets.now j entry other }
+fn near_offset(steps: &[Step], j: usize, entry: u16, other: u16) -> usize
+    requires { j < length steps.now }
+    ensures { result ≡ near_of steps.now j entry other }
 {
-    let i = wide16(entry);
-    if i < offsets.len() {
-        return offsets[i];
+    let i = entry as usize;
+    if i < steps.len() {
+        return steps[i].here;
     }
-    if wide16(other) < offsets.len() {
+    if (other as usize) < steps.len() {
         return NOWHERE;
     }
-    offsets[j]
+    steps[j].here
 }
 
-// The offsets of the neighbours that a table holds, beside another.
-fn lay_near(offsets: &[usize], table: &[u16], others: &[u16], near: &mut [usize])
-    requires { (length offsets.now ≤ length table.now) × (length offsets.now ≤ length others.now) × (length offsets.now ≤ length near.old) }
-    ensures { near.new ≡ over (near_offsets offsets.now table.now others.now) near.old }
+// The neighbours of all places, by the two tables. They are laid beside the offsets that they are taken from: a second array of these would be
+// 8 KB of stack more. An entry may name any place, so all steps are read while one is written, and the loop goes by number.
+fn lay_near(steps: &mut [Step], low: &[u16], high: &[u16])
+    requires { (length steps.old ≤ length low.now) × (length steps.old ≤ length high.now) }
+    ensures { steps.new ≡ near_steps steps.old low.now high.now }
 {
-    for j in 0..offsets.len() {
-        near[j] = near_offset(offsets, j, table[j], others[j]);
+    for j in 0..steps.len() {
+        let below = near_offset(steps, j, low[j], high[j]);
+        let above = near_offset(steps, j, high[j], low[j]);
+        let here = steps[j].here;
+        steps[j] = Step { here, below, above };
     }
 }
 
 // Lists the places of a patch whose places have these offsets and these neighbours.
 fn search_by_offsets(
     frame: &[u16],
-    offsets: &[usize],
+    steps: &mut [Step],
     low: &[u16],
     high: &[u16],
     pitch: usize,
@@ -91,25 +97,11 @@ fn search_by_offsets(
     columns: usize,
     positions: &mut [u32],
 ) -> usize
-    requires { OffsetsInside frame.now offsets.now low.now high.now pitch width rows columns (length positions.old) }
-    ensures { RowsListed (λ row column. pass_by_tables frame.now offsets.now low.now high.now (row * pitch + column)) width columns rows positions.old result positions.new }
+    requires { OffsetsInside frame.now steps.old low.now high.now pitch width rows columns (length positions.old) }
+    ensures { RowsListed (λ row column. pass_by_tables frame.now steps.old low.now high.now (row * pitch + column)) width columns rows positions.old result positions.new }
 {
-    let m = offsets.len();
-    let mut below = [0usize; PATCH_LIMIT];
-    let mut above = [0usize; PATCH_LIMIT];
-    lay_near(offsets, low, high, &mut below);
-    lay_near(offsets, high, low, &mut above);
-    search_rows(
-        frame,
-        offsets,
-        &below[0..m],
-        &above[0..m],
-        pitch,
-        width,
-        rows,
-        columns,
-        positions,
-    )
+    lay_near(steps, low, high);
+    search_rows(frame, steps, pitch, width, rows, columns, positions)
 }
 
 // Lists the places of a patch of h rows and k columns whose places have these neighbours.
@@ -128,19 +120,15 @@ fn search_by_neighbours(
     requires { PatchInside frame.now pitch width h k rows columns (length positions.old) × (h * k ≤ length low.now) × (h * k ≤ length high.now) }
     ensures { RowsListed (λ row column. pass_by_tables frame.now (offsets_of pitch k (h * k)) low.now high.now (row * pitch + column)) width columns rows positions.old result positions.new }
 {
-    let m = h * k;
-    let mut offsets = [0usize; PATCH_LIMIT];
-    lay_offsets(pitch, k, m, &mut offsets);
+    let mut room = [Step {
+        here: 0,
+        below: 0,
+        above: 0,
+    }; PATCH_LIMIT];
+    let steps = &mut room[0..h * k];
+    lay_offsets(pitch, k, steps);
     search_by_offsets(
-        frame,
-        &offsets[0..m],
-        low,
-        high,
-        pitch,
-        width,
-        rows,
-        columns,
-        positions,
+        frame, steps, low, high, pitch, width, rows, columns, positions,
     )
 }
 
@@ -162,7 +150,8 @@ pub(crate) fn search_patch(
     let m = h * k;
     let mut low = [0u16; PATCH_LIMIT];
     let mut high = [0u16; PATCH_LIMIT];
-    level_neighbours(&patch[0..m], &mut low, &mut high);
+    // Its sizes are right, so nothing is refused.
+    let _ = level_neighbours(&patch[0..m], &mut low, &mut high);
     search_by_neighbours(
         frame, &low, &high, pitch, width, h, k, rows, columns, positions,
     )

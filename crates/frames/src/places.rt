@@ -7,8 +7,17 @@
 ghost use Rattle.std.specs.Prelude.{◌≡◌, ◌+◌, ◌≤◌, ◌<◌, length, get_or};
 ghost use Rattle.frames.specs.Inside.{step_test, all_places_pass, StepWithin, Within, RestTested, KnownBelow};
 
-// The offset of a neighbour that is none.
+// The offset of a neighbour that is none. Two of Option<usize> would make a step of 24 bytes one of 40, which is 16 KB of stack more.
 pub(crate) const NOWHERE: usize = 18446744073709551615;
+
+// A place of the patch over the frame: how far it lies from the patch's first sample, and how far its neighbours below and above do. A place
+// with no neighbour stands for both itself.
+#[derive(Clone, Copy)]
+pub(crate) struct Step {
+    pub(crate) here: usize,
+    pub(crate) below: usize,
+    pub(crate) above: usize,
+}
 
 // The level so far from the first.
 fn level_under(under: &[u16], offset: usize) -> u16
@@ -18,41 +27,33 @@ fn level_under(under: &[u16], offset: usize) -> u16
     under[offset]
 }
 
-// Whether a place passes its test, by its offset and its neighbours', if the patch's first sample is the first here. Where the two neighbours
-// are one place, the patch's level is equal there; otherwise it lies strictly between them. A place with no neighbour stands for both itself.
-fn step_passes(under: &[u16], here: usize, low: usize, high: usize) -> bool
-    requires { StepWithin under.now 0 1 here low high }
-    ensures { result ≡ step_test under.now 0 here low high }
+// Whether a place passes its test, if the patch's first sample is the first here. Where the two neighbours are one place, the patch's level is
+// equal there; otherwise it lies strictly between them.
+fn step_passes(under: &[u16], step: Step) -> bool
+    requires { StepWithin under.now 0 1 step }
+    ensures { result ≡ step_test under.now 0 step }
 {
+    let Step { here, below, above } = step;
     let level = level_under(under, here);
-    if low == high {
-        return level == level_under(under, low);
+    if below == above {
+        return level == level_under(under, below);
     }
-    if low == NOWHERE {
-        return level < level_under(under, high);
+    if below == NOWHERE {
+        return level < level_under(under, above);
     }
-    if high == NOWHERE {
-        return level_under(under, low) < level;
+    if above == NOWHERE {
+        return level_under(under, below) < level;
     }
-    (level_under(under, low) < level) & (level < level_under(under, high))
+    (level_under(under, below) < level) & (level < level_under(under, above))
 }
 
 // Whether the places from `from` on pass. The frame is given from the patch's first sample on: so an offset is an index, with nothing to add.
-fn rest_passes(
-    under: &[u16],
-    offsets: &[usize],
-    below: &[usize],
-    above: &[usize],
-    from: usize,
-) -> bool
-    requires { Within under.now offsets.now below.now above.now 0 1 × (from ≤ length offsets.now) }
-    ensures { RestTested under.now offsets.now below.now above.now 0 from result }
+fn rest_passes(under: &[u16], steps: &[Step], from: usize) -> bool
+    requires { Within under.now steps.now 0 1 × (from ≤ length steps.now) }
+    ensures { RestTested under.now steps.now 0 from result }
 {
-    let mut j = from;
-    while j < offsets.len() {
-        if step_passes(under, offsets[j], below[j], above[j]) {
-            j += 1;
-        } else {
+    for step in &steps[from..] {
+        if !step_passes(under, *step) {
             return false;
         }
     }
@@ -63,17 +64,15 @@ fn rest_passes(
 pub(crate) fn still_stands(
     stands: bool,
     frame: &[u16],
-    offsets: &[usize],
-    below: &[usize],
-    above: &[usize],
+    steps: &[Step],
     at: usize,
     from: usize,
 ) -> bool
-    requires { Within frame.now offsets.now below.now above.now at 1 × (from ≤ length offsets.now) × KnownBelow frame.now offsets.now below.now above.now at from stands }
-    ensures { result ≡ all_places_pass frame.now offsets.now below.now above.now at }
+    requires { Within frame.now steps.now at 1 × (from ≤ length steps.now) × KnownBelow frame.now steps.now at from stands }
+    ensures { result ≡ all_places_pass frame.now steps.now at }
 {
     if stands {
-        return rest_passes(&frame[at..], offsets, below, above, from);
+        return rest_passes(&frame[at..], steps, from);
     }
     false
 }

@@ -8,7 +8,7 @@ ghost use Rattle.std.specs.Prelude.{true, false, ◌+◌, ◌*◌, ◌≤◌, �
 ghost use Rattle.frames.specs.Inside.{Within, all_places_pass, AllStand, Listed, RowsListed, Grid};
 
 use crate::blocks::{BLOCK, test_block};
-use words::smaller;
+use crate::places::Step;
 
 // Lists those that stand in a mask, counted from base.
 fn list_standing(mask: &[bool], base: usize, positions: &mut [u32], found: usize) -> usize
@@ -16,9 +16,9 @@ fn list_standing(mask: &[bool], base: usize, positions: &mut [u32], found: usize
     ensures { Listed (λ i. get_or mask.now i false) base (length mask.now) found positions.old result positions.new }
 {
     let mut n = found;
-    for i in 0..mask.len() {
+    for (i, stands) in mask.iter().enumerate() {
         positions[n] = (base + i) as u32;
-        n = n + (mask[i] as usize);
+        n += *stands as usize;
     }
     n
 }
@@ -34,34 +34,22 @@ fn list_all(base: usize, columns: usize, positions: &mut [u32], found: usize) ->
     found + columns
 }
 
-// All columns of a mask stand.
-fn stand_all(mask: &mut [bool])
-    ensures { AllStand mask.new }
-{
-    for i in 0..mask.len() {
-        mask[i] = true;
-    }
-}
-
-// Lists the places of a block, of as many columns as a mask has.
+// Lists the places of a block, of as many columns as a mask has, in which all stand.
 fn search_masked(
     frame: &[u16],
-    offsets: &[usize],
-    below: &[usize],
-    above: &[usize],
+    steps: &[Step],
     at: usize,
     base: usize,
     mask: &mut [bool],
     positions: &mut [u32],
     found: usize,
 ) -> usize
-    requires { Within frame.now offsets.now below.now above.now at (length mask.old) × (length mask.old ≤ 128) × (found + length mask.old ≤ length positions.old) × (base + length mask.old ≤ 4294967296) }
-    ensures { Listed (λ i. all_places_pass frame.now offsets.now below.now above.now (at + i)) base (length mask.old) found positions.old result positions.new }
+    requires { AllStand mask.old × Within frame.now steps.now at (length mask.old) × (found + length mask.old ≤ length positions.old) × (base + length mask.old ≤ 4294967296) }
+    ensures { Listed (λ i. all_places_pass frame.now steps.now (at + i)) base (length mask.old) found positions.old result positions.new }
 {
-    stand_all(mask);
     let columns = mask.len();
     let all = columns as u8;
-    let standing = test_block(frame, offsets, below, above, at, mask, all);
+    let standing = test_block(frame, steps, at, mask, all);
     if standing == 0 {
         return found;
     }
@@ -74,24 +62,20 @@ fn search_masked(
 // Lists the places of a block of so many columns.
 fn search_block(
     frame: &[u16],
-    offsets: &[usize],
-    below: &[usize],
-    above: &[usize],
+    steps: &[Step],
     at: usize,
     base: usize,
     columns: usize,
     positions: &mut [u32],
     found: usize,
 ) -> usize
-    requires { Within frame.now offsets.now below.now above.now at columns × (columns ≤ 128) × (found + columns ≤ length positions.old) × (base + columns ≤ 4294967296) }
-    ensures { Listed (λ i. all_places_pass frame.now offsets.now below.now above.now (at + i)) base columns found positions.old result positions.new }
+    requires { Within frame.now steps.now at columns × (columns ≤ 128) × (found + columns ≤ length positions.old) × (base + columns ≤ 4294967296) }
+    ensures { Listed (λ i. all_places_pass frame.now steps.now (at + i)) base columns found positions.old result positions.new }
 {
-    let mut mask = [false; BLOCK];
+    let mut mask = [true; BLOCK];
     search_masked(
         frame,
-        offsets,
-        below,
-        above,
+        steps,
         at,
         base,
         &mut mask[0..columns],
@@ -103,34 +87,20 @@ fn search_block(
 // Lists the places of a row.
 fn search_row(
     frame: &[u16],
-    offsets: &[usize],
-    below: &[usize],
-    above: &[usize],
+    steps: &[Step],
     at: usize,
     base: usize,
     columns: usize,
     positions: &mut [u32],
     found: usize,
 ) -> usize
-    requires { Within frame.now offsets.now below.now above.now at columns × (found + columns ≤ length positions.old) × (base + columns ≤ 4294967296) }
-    ensures { Listed (λ i. all_places_pass frame.now offsets.now below.now above.now (at + i)) base columns found positions.old result positions.new }
+    requires { Within frame.now steps.now at columns × (found + columns ≤ length positions.old) × (base + columns ≤ 4294967296) }
+    ensures { Listed (λ i. all_places_pass frame.now steps.now (at + i)) base columns found positions.old result positions.new }
 {
     let mut n = found;
-    let mut c: usize = 0;
-    while c < columns {
-        let wide = smaller(BLOCK, columns - c);
-        n = search_block(
-            frame,
-            offsets,
-            below,
-            above,
-            at + c,
-            base + c,
-            wide,
-            positions,
-            n,
-        );
-        c += wide;
+    for c in (0..columns).step_by(BLOCK) {
+        let wide = BLOCK.min(columns - c);
+        n = search_block(frame, steps, at + c, base + c, wide, positions, n);
     }
     n
 }
@@ -138,25 +108,21 @@ fn search_row(
 // Lists the places of all rows.
 pub(crate) fn search_rows(
     frame: &[u16],
-    offsets: &[usize],
-    below: &[usize],
-    above: &[usize],
+    steps: &[Step],
     pitch: usize,
     width: usize,
     rows: usize,
     columns: usize,
     positions: &mut [u32],
 ) -> usize
-    requires { Grid frame.now offsets.now below.now above.now pitch width rows columns (length positions.old) }
-    ensures { RowsListed (λ row column. all_places_pass frame.now offsets.now below.now above.now (row * pitch + column)) width columns rows positions.old result positions.new }
+    requires { Grid frame.now steps.now pitch width rows columns (length positions.old) }
+    ensures { RowsListed (λ row column. all_places_pass frame.now steps.now (row * pitch + column)) width columns rows positions.old result positions.new }
 {
     let mut found: usize = 0;
     for row in 0..rows {
         let at = row * pitch;
         let base = row * width;
-        found = search_row(
-            frame, offsets, below, above, at, base, columns, positions, found,
-        );
+        found = search_row(frame, steps, at, base, columns, positions, found);
     }
     found
 }

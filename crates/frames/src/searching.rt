@@ -12,8 +12,9 @@ ghost use Rattle.frames.specs.FramePromise.{FramePromise};
 
 use crate::answers::Sighted;
 use crate::patches::search_patch;
-use frame_sizes::{Tries, for_frame};
+use frame_sizes::for_frame;
 use lists::fill_unused;
+use order::Refusal;
 
 // Lists the places, if there are any.
 fn list_places(
@@ -74,10 +75,10 @@ pub fn search_frame(
     h: usize,
     k: usize,
     positions: &mut [u32],
-) -> Sighted
+) -> Result<Sighted, Refusal>
     ensures { FramePromise samples.now height width pitch patch.now h k positions.old result positions.new }
 {
-    match for_frame(
+    let tries = for_frame(
         samples.len(),
         height,
         width,
@@ -86,14 +87,19 @@ pub fn search_frame(
         h,
         k,
         positions.len(),
-    ) {
-        Tries::Refused(why) => Sighted::Refused(why),
-        Tries::At { rows, columns } => {
-            let found = write_places(
-                samples, height, width, pitch, patch, h, k, rows, columns, positions,
-            );
-            let places = rows * columns;
-            Sighted::Done { places, found }
-        }
-    }
+    )?;
+    let found = write_places(
+        samples,
+        height,
+        width,
+        pitch,
+        patch,
+        h,
+        k,
+        tries.rows,
+        tries.columns,
+        positions,
+    );
+    let places = tries.rows * tries.columns;
+    Ok(Sighted { places, found })
 }

@@ -8,8 +8,7 @@ ghost use Rattle.host_answers.specs.Results.{counts_list};
 ghost use Rattle.host_answers.specs.Answers.{AnswerPut};
 
 use crate::results::{ACCEPTED, result_of};
-use order::Counts;
-use search::Searched;
+use order::{Counts, Refusal};
 use words::put_words;
 
 // Writes N, D, S, W, R and the number struck, as many as there is room for.
@@ -22,7 +21,7 @@ fn put_counts(c: Counts, counts: &mut [u8])
 
 // Hands a search's answer and its two lists to the host.
 pub fn put_answer(
-    answer: Searched,
+    answer: Result<Counts, Refusal>,
     kept: &[u32],
     listed: &[u32],
     survivors: &mut [u8],
@@ -32,8 +31,8 @@ pub fn put_answer(
     ensures { AnswerPut answer kept.now listed.now survivors.old positions.old counts.old result survivors.new positions.new counts.new }
 {
     match answer {
-        Searched::Refused(why) => result_of(why),
-        Searched::Done(c) => {
+        Err(why) => result_of(why),
+        Ok(c) => {
             put_words(kept, survivors);
             put_words(listed, positions);
             put_counts(c, counts);

@@ -6,6 +6,7 @@ use mathlib.Core.Path.{◌≡◌, refl, sym, ◌∙◌, ap}
 use mathlib.Core.List.{List}
 use native.Mathlib.Omega.{arith}
 use native.Mathlib.Nat.{sub-zero}
+use Rattle.std.specs.Prelude.{Result, Ok, Err}
 use lib.IntN.{ℤ}
 use lib.ListN.{length, take}
 use borrow.Author.Tests.{ne_eqb, le-ltb}
@@ -16,14 +17,12 @@ use Rattle.order.specs.Neighbours.{low_table, high_table}
 use Rattle.order.specs.Witnesses.{witness_i_table, witness_j_table}
 use Rattle.order.specs.Refusals.{Verdict, accepted, refused, pattern_verdict, stitches_verdict, witnesses_verdict, tables_verdict, prepare_verdict}
 use Rattle.order.specs.Written.{over, after_verdict}
+use Rattle.order.specs.Answers.{answer_by}
+use Rattle.order.proofs.Answered.{done, unmet, ok_accepted, err_refused}
 use Rattle.order.proofs.Lists.{length-each}
-use Rattle.tables.specs.declared.answers.Prepared.{Prepared}
-use Rattle.sizes.specs.declared.answers.Checked.{Checked}
-use Rattle.sizes.specs.declared.answers.Checked.TheVariants.{Fine, Refused}
 use Rattle.sizes.specs.Lengths.{Room}
 use Rattle.tables.specs.Promises.{PreparePromise, sizes_verdict}
-use Rattle.sizes.specs.Answers.{checked_by}
-use Rattle.sizes.proofs.Verdicts.{fine_accepted, refused_why, prepare_room, prepare_unlost}
+use Rattle.sizes.proofs.Verdicts.{prepare_room, prepare_unlost}
 use Rattle.sizes.proofs.VerdictRows.{pattern_stays}
 use Rattle.words.specs.Bytes.{samples_in, bytes_of}
 use Rattle.host_answers.specs.Results.{refusal_result}
@@ -55,7 +54,7 @@ table_put v f n array low {k} {array'} a e s h p =
     let front : take k array' ≡ each f n = ap (take k) (e ∙ ap (λ v. after_verdict v (each f n) array) a) ∙ over_front f n array s in
     entries_put_lem (each f n) low (p ∙ ap (λ l. entries_put l low) front) (rw length-each h)
 
-pub tables-put : (P : List ℤ) (lows highs is js low high wi wj : List ℕ) {lows' highs' is' js' low' high' wi' wj' : List ℕ} {r : Prepared}
+pub tables-put : (P : List ℤ) (lows highs is js low high wi wj : List ℕ) {lows' highs' is' js' low' high' wi' wj' : List ℕ} {r : Result (Unit {0}) Refusal}
     → PreparePromise P lows highs is js r lows' highs' is' js' → first_lost_lem P ≡ none → Room (length P) (length low / 2) (length high / 2) (length wi / 2) (length wj / 2)
     → Room (length P) (length lows) (length highs) (length is) (length js) → low' ≡ entries_put (take (length P - 0) lows') low
     → high' ≡ entries_put (take (length P - 0) highs') high → wi' ≡ entries_put (take (length P - 0) is') wi → wj' ≡ entries_put (take (length P - 0) js') wj
@@ -77,17 +76,17 @@ module _ (P : List ℤ) (low high wi wj : List ℕ) where
   abbrev verdict : Verdict
   verdict = prepare_case P low high wi wj
 
-  pub fine_fits : Fine ≡ checked_by verdict → (first_lost_lem P ≡ none) × Room (length P) (length low / 2) (length high / 2) (length wi / 2) (length wj / 2)
-  fine_fits e = let a = fine_accepted verdict e in (prepare_unlost P _ _ _ _ a, prepare_room P _ _ _ _ a)
+  pub fine_fits : done ≡ answer_by verdict tt → (first_lost_lem P ≡ none) × Room (length P) (length low / 2) (length high / 2) (length wi / 2) (length wj / 2)
+  fine_fits e = let a = (ok_accepted verdict tt e).0 in (prepare_unlost P _ _ _ _ a, prepare_room P _ _ _ _ a)
 
-  pub prepare_put : {low' high' wi' wj' : List ℕ} → Fine ≡ checked_by verdict → TablesPut P low high wi wj low' high' wi' wj' → HostPrepare P low high wi wj 0 low' high' wi' wj'
+  pub prepare_put : {low' high' wi' wj' : List ℕ} → done ≡ answer_by verdict tt → TablesPut P low high wi wj low' high' wi' wj' → HostPrepare P low high wi wj 0 low' high' wi' wj'
   prepare_put e t =
-      let a : verdict ≡ accepted = fine_accepted verdict e in
+      let a : verdict ≡ accepted = (ok_accepted verdict tt e).0 in
       record { result = rw a refl; low_after = rw a t.low_put; high_after = rw a t.high_put; witness_i_after = rw a t.witness_i_put; witness_j_after = rw a t.witness_j_put }
 
-  pub prepare_refused : (why : Refusal) {result : ℕ} → Refused why ≡ checked_by verdict → result ≡ refusal_result why → HostPrepare P low high wi wj result low high wi wj
+  pub prepare_refused : (why : Refusal) {result : ℕ} → unmet why ≡ answer_by verdict tt → result ≡ refusal_result why → HostPrepare P low high wi wj result low high wi wj
   prepare_refused why e c =
-      let a : verdict ≡ refused why = refused_why verdict why e in
+      let a : verdict ≡ refused why = err_refused verdict tt e in
       record { result = rw a c; low_after = rw a refl; high_after = rw a refl; witness_i_after = rw a refl; witness_j_after = rw a refl }
 
   -- no second result, and no other byte in a table
@@ -105,7 +104,7 @@ module _ (P : List ℤ) (low high wi wj : List ℕ) where
 -- ---- by the pattern's bytes
 
 -- a length that is refused is refused before all else
-pub prepare_unfit : (pattern low high wi wj : List ℕ) {why : Refusal} {result : ℕ} {c : Checked} → c ≡ checked_by (pattern_verdict (length pattern / 4) accepted) → c ≡ Refused why → result ≡ refusal_result why
+pub prepare_unfit : (pattern low high wi wj : List ℕ) {why : Refusal} {result : ℕ} {c : Result (Unit {0}) Refusal} → c ≡ answer_by (pattern_verdict (length pattern / 4) accepted) tt → c ≡ Err why → result ≡ refusal_result why
     → HostPrepare (samples_in pattern) low high wi wj result low high wi wj
 unfolding prepare_verdict
 prepare_unfit pattern low high wi wj {why} e g r =

@@ -8,6 +8,7 @@ use mathlib.Core.List.{List, ◌++◌}
 use mathlib.Core.Bool.{Bool, cond}
 use native.Mathlib.Omega.{arith}
 use native.Mathlib.Nat.{sub-zero}
+use Rattle.std.specs.Prelude.{Result, Ok, Err}
 use lib.IntN.{ℤ}
 use lib.ListN.{length, get_or, take, drop, length-append, length-replicate}
 use lib.Seq.{take_at, length-take-le}
@@ -24,18 +25,14 @@ use Rattle.order.specs.Sweeping.{positions as listed-windows}
 use Rattle.order.specs.Written.{over, filled}
 use Rattle.order.proofs.Lists.{length-each, get_or-each, windows_of_as}
 use Rattle.order.proofs.Dueling.{duels-and-survivors}
-use Rattle.search.specs.declared.answers.Searched.{Searched}
-use Rattle.sizes.specs.declared.answers.Checked.{Checked}
-use Rattle.sizes.specs.declared.answers.Checked.TheVariants.{Refused}
-use Rattle.sizes.specs.declared.answers.Fitting.{Fitting}
-use Rattle.sizes.specs.declared.answers.Fitting.TheVariants.{Fit, Refused as Unfit}
 use Rattle.order.specs.Written.{after_verdict}
 use Rattle.sizes.specs.Lengths.{Room}
-use Rattle.search.specs.SearchPromise.{SearchPromise, searched_by}
-use Rattle.sizes.specs.Answers.{checked_by, fitting_by}
+use Rattle.search.specs.SearchPromise.{SearchPromise}
 use Rattle.sizes.specs.Lengths.{fitting_verdict, FittingPromise}
+use Rattle.order.specs.Answers.{answer_by}
+use Rattle.order.proofs.Answered.{ok_accepted, err_refused}
 use Rattle.order.proofs.Rows.{then_row, row_refuses}
-use Rattle.sizes.proofs.Verdicts.{refused_why, fit_accepted, unfit_why, pattern_passed, stitches_passed, tables_passed, room_passed}
+use Rattle.sizes.proofs.Verdicts.{pattern_passed, stitches_passed, tables_passed, room_passed}
 use Rattle.sizes.proofs.VerdictRows.{sizes, sizes_row, room_row, pattern_stays}
 use Rattle.search.proofs.WrittenOut.{positions-few}
 use Rattle.search.proofs.SearchLaws.{search_ready}
@@ -60,7 +57,7 @@ front_read table entries rest m h t p =
     ap (λ l. take m (l ++ rest)) same ∙ take_at (first_entries table m) rest m (length-each _ m)
 
 -- of each table
-pub tables_read : (low high wi wj : List ℕ) {P T : List ℤ} {lows highs is js kept listed kept' listed' : List ℕ} {r : Searched}
+pub tables_read : (low high wi wj : List ℕ) {P T : List ℤ} {lows highs is js kept listed kept' listed' : List ℕ} {r : Result Counts Refusal}
     → SearchPromise P lows highs is js T kept listed r kept' listed' → lows ≡ first_entries low (length P) → highs ≡ first_entries high (length P)
     → is ≡ first_entries wi (length P) → js ≡ first_entries wj (length P)
     → SearchPromise P (first_entries low (length P)) (first_entries high (length P)) (first_entries wi (length P)) (first_entries wj (length P)) T kept listed r kept' listed'
@@ -134,8 +131,8 @@ list_put F array buffer {k} {array'} e l h =
     let front : take k array' ≡ F = ap (take k) e ∙ take_at F (drop (length F) array) k l in
     ap (λ t. words_put t buffer) front ∙ words_put_lem F buffer (omega arith)
 
-handed : (v : Verdict) (kept listed : List ℕ) {k : ℕ} {c : Counts} {answer : Searched} {F G kept' listed' survivors positions counts survivors' positions' counts' : List ℕ} {r : ℕ}
-    → answer ≡ searched_by v c → kept' ≡ after_verdict v F kept → listed' ≡ after_verdict v G listed → length F ≡ k → length G ≡ k
+handed : (v : Verdict) (kept listed : List ℕ) {k : ℕ} {c : Counts} {answer : Result Counts Refusal} {F G kept' listed' survivors positions counts survivors' positions' counts' : List ℕ} {r : ℕ}
+    → answer ≡ answer_by v c → kept' ≡ after_verdict v F kept → listed' ≡ after_verdict v G listed → length F ≡ k → length G ≡ k
     → k ≤ length survivors / 4 → k ≤ length positions / 4 → AnswerPut answer (take k kept') (take k listed') survivors positions counts r survivors' positions' counts'
     → Handed v c F G survivors positions counts r survivors' positions' counts'
 handed accepted kept listed {k} {c} {answer} {F} {G} {kept'} {listed'} {survivors} {positions} a x y f g s l p =
@@ -189,7 +186,7 @@ module _ (P : List ℤ) (low high wi wj trace survivors positions counts : List 
       limit : verdict ≡ accepted → length T ≤ trace_limit
       limit a =
           (search_ready P (entries_in low) (entries_in high) (entries_in wi) (entries_in wj) T (length survivors / 4) (length positions / 4)
-          (sym (ap (λ v. fitting_by v (windows_of (length P) (length T))) a))).trace
+          (sym (ap (λ v. answer_by v (windows_of (length P) (length T))) a))).trace
 
   -- the verdict on the lists that the search is given is the verdict on the host's
   same_verdict : {windows s p : ℕ} → Lengths windows → windows ≤ s → windows ≤ p
@@ -212,7 +209,7 @@ module _ (P : List ℤ) (low high wi wj trace survivors positions counts : List 
       ∙ own_same P low high wi wj m r (omega arith)
       ∙ sym (only_own P (entries_in low) (entries_in high) (entries_in wi) (entries_in wj) T (length survivors / 4) (length positions / 4) l all (omega arith) (omega arith) (omega arith))
 
-  pub search_put : {windows samples : ℕ} {S : List ℤ} {kept listed kept' listed' survivors' positions' counts' : List ℕ} {answer : Searched} {r : ℕ}
+  pub search_put : {windows samples : ℕ} {S : List ℤ} {kept listed kept' listed' survivors' positions' counts' : List ℕ} {answer : Result Counts Refusal} {r : ℕ}
       → Lengths windows → Arrays n samples (length kept) (length listed)
       → SearchPromise P (first_entries low m) (first_entries high m) (first_entries wi m) (first_entries wj m) S kept listed answer kept' listed' → S ≡ T
       → AnswerPut answer (take (windows - 0) kept') (take (windows - 0) listed') survivors positions counts r survivors' positions' counts'
@@ -236,13 +233,13 @@ module _ (P : List ℤ) (low high wi wj trace survivors positions counts : List 
 
   -- ---- the look at the pattern and the lengths
 
-  abbrev Looked : Fitting → Type 0
+  abbrev Looked : Result ℕ Refusal → Type 0
   Looked r = FittingPromise P (length low / 2) (length high / 2) (length wi / 2) (length wj / 2) n (length survivors / 4) (length positions / 4) r
 
-  pub search_fits : (windows : ℕ) {r : Fitting} → Looked r → r ≡ Fit windows → Lengths windows
+  pub search_fits : (windows : ℕ) {r : Result ℕ Refusal} → Looked r → r ≡ Ok windows → Lengths windows
   unfolding fitting_verdict
   search_fits windows p e =
-      let f = fit_accepted _ _ (sym e ∙ p.answer) in
+      let f = ok_accepted _ _ (sym e ∙ p.answer) in
       let a = pattern_passed m _ f.0 in
       let o = stitches_passed P _ a.2 in
       let b = tables_passed m (length low / 2) (length high / 2) (length wi / 2) (length wj / 2) _ o.1 in
@@ -266,11 +263,11 @@ module _ (P : List ℤ) (low high wi wj trace survivors positions counts : List 
         listed_room = omega arith;
       }
 
-  pub search_refused : (why : Refusal) {r : Fitting} {code : ℕ} → Looked r → r ≡ Unfit why → code ≡ refusal_result why
+  pub search_refused : (why : Refusal) {r : Result ℕ Refusal} {code : ℕ} → Looked r → r ≡ Err why → code ≡ refusal_result why
       → HostSearch P low high wi wj trace survivors positions counts code survivors positions counts
   unfolding search_verdict
   search_refused why p e c =
-      let f = unfit_why _ _ (sym e ∙ p.answer) in
+      let f = err_refused _ _ (sym e ∙ p.answer) in
       let v : verdict ≡ refused why =
       rw (length-each, length-each, length-each, length-each, length-each)
       (stays P (length low / 2) (length high / 2) (length wi / 2) (length wj / 2) n (length survivors / 4) (length positions / 4) why _ f) in
@@ -291,11 +288,11 @@ module _ (P : List ℤ) (low high wi wj trace survivors positions counts : List 
 -- ---- by the pattern's bytes
 
 -- a length that is refused is refused before all else
-pub search_unfit : (pattern low high wi wj trace survivors positions counts : List ℕ) {why : Refusal} {result : ℕ} {c : Checked} → c ≡ checked_by (pattern_verdict (length pattern / 4) accepted) → c ≡ Refused why
+pub search_unfit : (pattern low high wi wj trace survivors positions counts : List ℕ) {why : Refusal} {result : ℕ} {c : Result (Unit {0}) Refusal} → c ≡ answer_by (pattern_verdict (length pattern / 4) accepted) tt → c ≡ Err why
     → result ≡ refusal_result why → HostSearch (samples_in pattern) low high wi wj trace survivors positions counts result survivors positions counts
 unfolding search_verdict
 search_unfit pattern low high wi wj trace survivors positions counts {why} e g r =
-    let v : search_case (samples_in pattern) low high wi wj trace survivors positions ≡ refused why = refused_why _ why (sym g ∙ pattern_stays _ (rw length-each e) g _) in
+    let v : search_case (samples_in pattern) low high wi wj trace survivors positions ≡ refused why = err_refused _ tt (sym g ∙ pattern_stays _ (rw length-each e) g _) in
     promised (samples_in pattern) low high wi wj trace survivors positions counts (rw v r) (rw v refl) (rw v refl) (rw v refl)
 
 -- the samples are those of the pattern's bytes

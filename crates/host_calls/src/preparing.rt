@@ -15,7 +15,6 @@ ghost use Rattle.host_calls.specs.Inside.{TablesPut};
 use crate::reading::all_samples;
 use host_answers::{ACCEPTED, result_of};
 use order::PATTERN_LIMIT;
-use sizes::Checked;
 use words::put_entries;
 
 // The tables of a pattern that was found to fit, over the front of the host's.
@@ -34,7 +33,7 @@ fn put_tables(
     let mut highs = [0u16; 1024];
     let mut is = [0u16; 1024];
     let mut js = [0u16; 1024];
-    tables::prepare(pattern, &mut lows, &mut highs, &mut is, &mut js);
+    let _ = tables::prepare(pattern, &mut lows, &mut highs, &mut is, &mut js);
     put_entries(&lows[0..m], low);
     put_entries(&highs[0..m], high);
     put_entries(&is[0..m], witness_i);
@@ -58,8 +57,8 @@ fn prepare_samples(
         witness_i.len() / 2,
         witness_j.len() / 2,
     ) {
-        Checked::Refused(why) => result_of(why),
-        Checked::Fine => {
+        Err(why) => result_of(why),
+        Ok(()) => {
             put_tables(pattern, low, high, witness_i, witness_j);
             ACCEPTED
         }
@@ -94,7 +93,7 @@ pub fn prepare(
     ensures { HostPrepare (samples_in pattern.now) low.old high.old witness_i.old witness_j.old result low.new high.new witness_i.new witness_j.new }
 {
     match sizes::for_pattern(pattern.len() / 4) {
-        Checked::Refused(why) => result_of(why),
-        Checked::Fine => prepare_bytes(pattern, low, high, witness_i, witness_j),
+        Err(why) => result_of(why),
+        Ok(()) => prepare_bytes(pattern, low, high, witness_i, witness_j),
     }
 }

@@ -9,7 +9,7 @@ ghost use Rattle.search.specs.SearchPromise.{SearchPromise};
 ghost use Rattle.words.specs.Bytes.{first_entries};
 
 use crate::reading::front;
-use search::Searched;
+use order::{Counts, Refusal};
 
 // Searches by a pattern's samples and the host's tables, into lists of numbers.
 pub(crate) fn search_by(
@@ -21,7 +21,7 @@ pub(crate) fn search_by(
     trace: &[i32],
     kept: &mut [u32],
     listed: &mut [u32],
-) -> Searched
+) -> Result<Counts, Refusal>
     requires { Room (length pattern.now) (length low.now / 2) (length high.now / 2) (length witness_i.now / 2) (length witness_j.now / 2) }
     ensures { SearchPromise pattern.now (first_entries low.now (length pattern.now)) (first_entries high.now (length pattern.now)) (first_entries witness_i.now (length pattern.now)) (first_entries witness_j.now (length pattern.now)) trace.now kept.old listed.old result kept.new listed.new }
 {

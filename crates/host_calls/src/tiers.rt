@@ -6,6 +6,7 @@
 // for the trace and the two lists up to 24 KB for 2,048 samples and 768 KB above.
 
 ghost use Rattle.std.specs.Prelude.{◌/◌, ◌≤◌, length};
+ghost use Rattle.order.specs.Sizes.{trace_limit};
 ghost use Rattle.words.specs.Bytes.{samples_in};
 ghost use Rattle.host_calls.specs.HostPromises.{HostSearch};
 ghost use Rattle.host_calls.specs.Inside.{Fits, Arrays};
@@ -14,7 +15,6 @@ use crate::reading::all_samples;
 use crate::searching::search_by;
 use host_answers::{put_answer, result_of};
 use order::{PATTERN_LIMIT, TRACE_LIMIT};
-use sizes::{Checked, Fitting};
 
 // The longest traces of the two kinds of small calls, in samples.
 const BRIEF: usize = 256;
@@ -63,8 +63,8 @@ fn search_in(
     )
 }
 
-// Up to 256 samples.
-fn search_brief(
+// Searches in arrays of N samples, and so a trace of no more.
+fn search_within<const N: usize>(
     pattern: &[i32],
     low: &[u8],
     high: &[u8],
@@ -76,50 +76,14 @@ fn search_brief(
     counts: &mut [u8],
     windows: usize,
 ) -> u64
-    requires trace_len_bound { length trace.now / 4 ≤ 256 }
+    requires size { N ≤ trace_limit }
+    requires trace_len_bound { length trace.now / 4 ≤ N }
     requires fits { Fits pattern.now (length low.now) (length high.now) (length witness_i.now) (length witness_j.now) (length trace.now) (length survivors.old) (length positions.old) windows }
     ensures { HostSearch pattern.now low.now high.now witness_i.now witness_j.now trace.now survivors.old positions.old counts.old result survivors.new positions.new counts.new }
 {
-    let mut samples = [0i32; BRIEF];
-    let mut kept = [0u32; BRIEF];
-    let mut listed = [0u32; BRIEF];
-    search_in(
-        pattern,
-        low,
-        high,
-        witness_i,
-        witness_j,
-        trace,
-        &mut samples,
-        &mut kept,
-        &mut listed,
-        survivors,
-        positions,
-        counts,
-        windows,
-    )
-}
-
-// Up to 2,048 samples.
-fn search_short(
-    pattern: &[i32],
-    low: &[u8],
-    high: &[u8],
-    witness_i: &[u8],
-    witness_j: &[u8],
-    trace: &[u8],
-    survivors: &mut [u8],
-    positions: &mut [u8],
-    counts: &mut [u8],
-    windows: usize,
-) -> u64
-    requires trace_len_bound { length trace.now / 4 ≤ 2048 }
-    requires fits { Fits pattern.now (length low.now) (length high.now) (length witness_i.now) (length witness_j.now) (length trace.now) (length survivors.old) (length positions.old) windows }
-    ensures { HostSearch pattern.now low.now high.now witness_i.now witness_j.now trace.now survivors.old positions.old counts.old result survivors.new positions.new counts.new }
-{
-    let mut samples = [0i32; SMALL];
-    let mut kept = [0u32; SMALL];
-    let mut listed = [0u32; SMALL];
+    let mut samples = [0i32; N];
+    let mut kept = [0u32; N];
+    let mut listed = [0u32; N];
     search_in(
         pattern,
         low,
@@ -161,24 +125,10 @@ fn search_long(
         survivors.len() / 4,
         positions.len() / 4,
     ) {
-        Fitting::Refused(why) => result_of(why),
-        Fitting::Fit(windows) => {
-            let mut samples = [0i32; TRACE_LIMIT];
-            let mut kept = [0u32; TRACE_LIMIT];
-            let mut listed = [0u32; TRACE_LIMIT];
-            search_in(
-                pattern,
-                low,
-                high,
-                witness_i,
-                witness_j,
-                trace,
-                &mut samples,
-                &mut kept,
-                &mut listed,
-                survivors,
-                positions,
-                counts,
+        Err(why) => result_of(why),
+        Ok(windows) => {
+            search_within::<TRACE_LIMIT>(
+                pattern, low, high, witness_i, witness_j, trace, survivors, positions, counts,
                 windows,
             )
         }
@@ -215,17 +165,51 @@ fn search_sized(
         survivors.len() / 4,
         positions.len() / 4,
     ) {
-        Fitting::Refused(why) => result_of(why),
-        Fitting::Fit(windows) => {
+        Err(why) => result_of(why),
+        Ok(windows) => {
             if BRIEF < n {
-                return search_short(
+                return search_within::<SMALL>(
                     pattern, low, high, witness_i, witness_j, trace, survivors, positions, counts,
                     windows,
                 );
             }
-            search_brief(
+            search_within::<BRIEF>(
                 pattern, low, high, witness_i, witness_j, trace, survivors, positions, counts,
                 windows,
+            )
+        }
+    }
+}
+
+// Searches by the pattern's bytes: in arrays of the size that the trace takes, or, if LARGE, in the large ones for any trace. The choice is
+// a constant and no closure, whose contract could not say what it wrote into the three buffers that it lends on.
+fn search_bytes<const LARGE: bool>(
+    pattern: &[u8],
+    low: &[u8],
+    high: &[u8],
+    witness_i: &[u8],
+    witness_j: &[u8],
+    trace: &[u8],
+    survivors: &mut [u8],
+    positions: &mut [u8],
+    counts: &mut [u8],
+) -> u64
+    ensures { HostSearch (samples_in pattern.now) low.now high.now witness_i.now witness_j.now trace.now survivors.old positions.old counts.old result survivors.new positions.new counts.new }
+{
+    let m = pattern.len() / 4;
+    match sizes::for_pattern(m) {
+        Err(why) => result_of(why),
+        Ok(()) => {
+            let mut samples = [0i32; PATTERN_LIMIT];
+            all_samples(pattern, &mut samples);
+            let pattern = &samples[0..m];
+            if LARGE {
+                return search_long(
+                    pattern, low, high, witness_i, witness_j, trace, survivors, positions, counts,
+                );
+            }
+            search_sized(
+                pattern, low, high, witness_i, witness_j, trace, survivors, positions, counts,
             )
         }
     }
@@ -245,25 +229,9 @@ pub fn search_large(
 ) -> u64
     ensures { HostSearch (samples_in pattern.now) low.now high.now witness_i.now witness_j.now trace.now survivors.old positions.old counts.old result survivors.new positions.new counts.new }
 {
-    let m = pattern.len() / 4;
-    match sizes::for_pattern(m) {
-        Checked::Refused(why) => result_of(why),
-        Checked::Fine => {
-            let mut samples = [0i32; PATTERN_LIMIT];
-            all_samples(pattern, &mut samples);
-            search_long(
-                &samples[0..m],
-                low,
-                high,
-                witness_i,
-                witness_j,
-                trace,
-                survivors,
-                positions,
-                counts,
-            )
-        }
-    }
+    search_bytes::<true>(
+        pattern, low, high, witness_i, witness_j, trace, survivors, positions, counts,
+    )
 }
 
 // Searches in arrays of the size that the trace takes.
@@ -280,23 +248,7 @@ pub fn search(
 ) -> u64
     ensures { HostSearch (samples_in pattern.now) low.now high.now witness_i.now witness_j.now trace.now survivors.old positions.old counts.old result survivors.new positions.new counts.new }
 {
-    let m = pattern.len() / 4;
-    match sizes::for_pattern(m) {
-        Checked::Refused(why) => result_of(why),
-        Checked::Fine => {
-            let mut samples = [0i32; PATTERN_LIMIT];
-            all_samples(pattern, &mut samples);
-            search_sized(
-                &samples[0..m],
-                low,
-                high,
-                witness_i,
-                witness_j,
-                trace,
-                survivors,
-                positions,
-                counts,
-            )
-        }
-    }
+    search_bytes::<false>(
+        pattern, low, high, witness_i, witness_j, trace, survivors, positions, counts,
+    )
 }

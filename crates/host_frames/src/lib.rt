@@ -7,7 +7,6 @@
 
 ghost use Rattle.host_frames.specs.Promises.{HostFrame};
 
-use frames::Sighted;
 use host_answers::{ACCEPTED, result_of};
 
 // Seeks a patch of h rows and k columns in a frame: its places are listed, and their number and how many were found are stored, or nothing is.
@@ -26,13 +25,10 @@ pub fn search(
     ensures { HostFrame samples.now height width pitch patch.now h k positions.old places.old found.old result positions.new places.new found.new }
 {
     match frames::search_frame(samples, height, width, pitch, patch, h, k, positions) {
-        Sighted::Refused(why) => result_of(why),
-        Sighted::Done {
-            places: tried,
-            found: listed,
-        } => {
-            *places = tried;
-            *found = listed;
+        Err(why) => result_of(why),
+        Ok(sighted) => {
+            *places = sighted.places;
+            *found = sighted.found;
             ACCEPTED
         }
     }

@@ -1,30 +1,27 @@
 -- Shows: what is handed to the host of a reading's answer and of a writing's, case by case, and that nothing else can be.
 -- Assumes nothing.
 use Prim.Native.Nat.{ℕ}
-use mathlib.Core.Path.{◌≡◌, refl, sym, ◌∙◌}
+use mathlib.Core.Path.{◌≡◌, refl, sym, ◌∙◌, ap}
 use mathlib.Core.List.{List}
 use lib.IntN.{ℤ}
+use Rattle.std.specs.Prelude.{Result, Ok, Err}
 use lib.ListN.{length}
-use Rattle.order.specs.Recordings.{sample_count, first_sample}
 use Rattle.order.specs.declared.refusal.Refusal.{Refusal}
 use Rattle.order.specs.Refusals.{read_verdict, write_verdict}
+use Rattle.order.proofs.Answered.{ok_accepted, err_refused}
 use Rattle.recording.specs.declared.reading.Reading.{Reading}
-use Rattle.recording.specs.declared.reading.Reading.TheVariants.{Done, Refused}
-use Rattle.recording.specs.declared.writing.Writing.{Writing}
-use Rattle.recording.specs.declared.writing.Writing.TheVariants.{Done as Written, Refused as Unwritten}
+use Rattle.recording.specs.Readings.{reading_of}
 use Rattle.recording.specs.Recorded.{new_length}
 use Rattle.recording.specs.Promises.{ReadPromise, WritePromise}
-use Rattle.recording.proofs.Readings.{done-from, unread_from}
-use Rattle.recording.proofs.Writings.{written_from, unwritten_from}
 use Rattle.host_answers.specs.Results.{refusal_result}
 use Rattle.host_answers.proofs.Numbers.{told-apart}
 use Rattle.host_recordings.specs.Promises.{HostRead, HostWrite}
 
 module _ (bs : List ℕ) (samples : List ℤ) (count first : ℕ) where
-  pub read_refused : {answer : Reading} {why : Refusal} {code : ℕ} {samples' : List ℤ} → answer ≡ Refused why → ReadPromise bs samples answer samples' → code ≡ refusal_result why
+  pub read_refused : {answer : Result Reading Refusal} {why : Refusal} {code : ℕ} {samples' : List ℤ} → answer ≡ Err why → ReadPromise bs samples answer samples' → code ≡ refusal_result why
       → HostRead bs samples count first code samples' count first
   read_refused {answer} {why} g p e =
-      let w = unread_from (read_verdict bs (length samples)) (sample_count bs) (first_sample bs) why (sym g ∙ p.answer) in
+      let w = err_refused (read_verdict bs (length samples)) (reading_of bs) (sym g ∙ p.answer) in
       record {
         result = rw w e;
         samples_after = p.samples_after;
@@ -33,17 +30,17 @@ module _ (bs : List ℕ) (samples : List ℤ) (count first : ℕ) where
         pointed = λ z. absurd (told-apart (read_verdict bs (length samples)) why w (rw w (sym e ∙ z)));
       }
 
-  pub read_done : {answer : Reading} {number place : ℕ} {samples' : List ℤ} → answer ≡ Done number place → ReadPromise bs samples answer samples'
-      → HostRead bs samples count first 0 samples' number place
-  read_done {answer} {number} {place} g p =
-      let d = done-from (read_verdict bs (length samples)) (sample_count bs) (first_sample bs) number place (sym g ∙ p.answer) in
+  pub read_done : {answer : Result Reading Refusal} {told : Reading} {samples' : List ℤ} → answer ≡ Ok told → ReadPromise bs samples answer samples'
+      → HostRead bs samples count first 0 samples' told.count told.first
+  read_done {answer} {told} g p =
+      let d = ok_accepted (read_verdict bs (length samples)) (reading_of bs) (sym g ∙ p.answer) in
       let w = d.0 in
       record {
         result = rw w refl;
         samples_after = p.samples_after;
-        count_after = rw w d.1;
-        first_after = rw w d.2;
-        pointed = λ z. p.pointed number place g;
+        count_after = rw w (ap (λ (r : Reading). r.count) d.1);
+        first_after = rw w (ap (λ (r : Reading). r.first) d.1);
+        pointed = λ z. p.pointed told g;
       }
 
   -- no second number, and no other content of what was lent
@@ -58,10 +55,10 @@ module _ (bs : List ℕ) (samples : List ℤ) (count first : ℕ) where
   )
 
 module _ (before : List ℕ) (k : ℕ) (samples : List ℤ) (end : ℕ) where
-  pub write_refused : {answer : Writing} {why : Refusal} {code : ℕ} {after : List ℕ} → answer ≡ Unwritten why → WritePromise before k samples answer after → code ≡ refusal_result why
+  pub write_refused : {answer : Result ℕ Refusal} {why : Refusal} {code : ℕ} {after : List ℕ} → answer ≡ Err why → WritePromise before k samples answer after → code ≡ refusal_result why
       → HostWrite before k samples end code after end
   write_refused {answer} {why} g p e =
-      let w = unwritten_from (write_verdict (length before) k (length samples)) (new_length k samples) why (sym g ∙ p.answer) in
+      let w = err_refused (write_verdict (length before) k (length samples)) (new_length k samples) (sym g ∙ p.answer) in
       record {
         result = rw w e;
         bytes_after = p.bytes_after;
@@ -69,9 +66,9 @@ module _ (before : List ℕ) (k : ℕ) (samples : List ℤ) (end : ℕ) where
         read_back = λ z. absurd (told-apart (write_verdict (length before) k (length samples)) why w (rw w (sym e ∙ z)));
       }
 
-  pub write_done : {answer : Writing} {new : ℕ} {after : List ℕ} → answer ≡ Written new → WritePromise before k samples answer after → HostWrite before k samples end 0 after new
+  pub write_done : {answer : Result ℕ Refusal} {new : ℕ} {after : List ℕ} → answer ≡ Ok new → WritePromise before k samples answer after → HostWrite before k samples end 0 after new
   write_done {answer} {new} g p =
-      let d = written_from (write_verdict (length before) k (length samples)) (new_length k samples) new (sym g ∙ p.answer) in
+      let d = ok_accepted (write_verdict (length before) k (length samples)) (new_length k samples) (sym g ∙ p.answer) in
       record { result = rw d.0 refl; bytes_after = p.bytes_after; length_after = rw d.0 d.1; read_back = λ z. p.read_back new g }
 
   pub tension_write_only_answer : {r s : ℕ} {after₁ after₂ : List ℕ} {end₁ end₂ : ℕ} → HostWrite before k samples end r after₁ end₁ → HostWrite before k samples end s after₂ end₂

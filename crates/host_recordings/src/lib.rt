@@ -9,20 +9,16 @@
 ghost use Rattle.host_recordings.specs.Promises.{HostRead, HostWrite};
 
 use host_answers::{ACCEPTED, result_of};
-use recording::{Reading, Writing};
 
 // Reads the recording that ends with these bytes: its samples, their number and the byte of the first are stored, or nothing is.
 pub fn read(bytes: &[u8], samples: &mut [i32], count: &mut usize, first: &mut usize) -> u64
     ensures { HostRead bytes.now samples.old count.old first.old result samples.new count.new first.new }
 {
     match recording::read(bytes, samples) {
-        Reading::Refused(why) => result_of(why),
-        Reading::Done {
-            count: number,
-            first: place,
-        } => {
-            *count = number;
-            *first = place;
+        Err(why) => result_of(why),
+        Ok(told) => {
+            *count = told.count;
+            *first = told.first;
             ACCEPTED
         }
     }
@@ -33,8 +29,8 @@ pub fn write(buffer: &mut [u8], k: usize, samples: &[i32], length: &mut usize) -
     ensures { HostWrite buffer.old k samples.now length.old result buffer.new length.new }
 {
     match recording::write(buffer, k, samples) {
-        Writing::Refused(why) => result_of(why),
-        Writing::Done(end) => {
+        Err(why) => result_of(why),
+        Ok(end) => {
             *length = end;
             ACCEPTED
         }

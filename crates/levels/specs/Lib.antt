@@ -1,4 +1,3 @@
--- Grey levels as samples, and what the call on them promises; under Inside, what the functions of this crate tell each other.
+-- Grey levels as samples, and what the call on them promises.
 pub mod Levels
 pub mod Promises
-pub mod Inside

@@ -1,34 +1,14 @@
--- Shows: a part of a buffer that is filled with "unused", one entry a turn; and that a buffer whose first entries are a list, with such a part
--- behind them, is what the rules write.
+-- Shows: a part of a buffer that is filled with "unused", in its buffer; and that a buffer whose first entries are a list, with such a
+-- part behind them, is what the rules write.
 -- Assumes nothing.
-use Prim.Native.Nat.{ℕ, suc, ◌+◌, ◌-◌, ◌≤◌, ◌<◌}
+use Prim.Native.Nat.{ℕ, ◌-◌, ◌≤◌}
 use mathlib.Core.Path.{◌≡◌, sym, ◌∙◌, ap, ap₂}
-use mathlib.Core.List.{List, [], ◌∷◌, ◌++◌, append_assoc, append-nil}
+use mathlib.Core.List.{List, ◌++◌, append_assoc}
 use native.Mathlib.Omega.{arith}
-use native.Mathlib.Numerals.{add-one}
-use lib.ListN.{length, get_or, take, drop, set, replicate, length-append, length-replicate, replicate-append-replicate, drop_of_length-le}
-use lib.Seq.{drop-cons, set_at}
+use lib.ListN.{length, take, drop, replicate, length-append, length-replicate}
 use borrow.Rule.Slice.PartMut.{mid_of, put_mid, mid_len, Post-is}
 use Rattle.order.specs.Sizes.{unused}
 use Rattle.order.specs.Written.{over, filled}
-
--- the first k entries are filled
-abbrev pub filled_to : List ℕ → ℕ → List ℕ
-filled_to l k = replicate k unused ++ drop k l
-
-pub fill_one : (l : List ℕ) (k : ℕ) → k < length l → set (filled_to l k) k unused ≡ filled_to l (k + 1)
-fill_one l k h =
-    ap (λ r. set (replicate k unused ++ r) k unused) (drop-cons l k 0 h) ∙
-    set_at (replicate k unused) (get_or l k 0) (drop (suc k) l) unused k (length-replicate k unused) ∙
-    sym (append_assoc (replicate k unused) (unused ∷ []) (drop (suc k) l)) ∙
-    ap (λ r. r ++ drop (suc k) l) (replicate-append-replicate k 1 unused) ∙
-    ap (λ n. replicate (k + 1) unused ++ drop n l) (sym (add-one k))
-
-pub fill_all : (l : List ℕ) (k : ℕ) → k ≡ length l → filled_to l k ≡ replicate (length l) unused
-fill_all l k e =
-    let h : length l ≤ k = omega arith in
-    let past : drop k l ≡ [] = drop_of_length-le l h in
-    ap (λ r. replicate k unused ++ r) past ∙ append-nil (replicate k unused) ∙ ap (λ n. replicate n unused) e
 
 -- the part from entry k up to entry n, in its buffer
 pub part_filled : (l : List ℕ) {part : List ℕ} (k n : ℕ) → k ≤ n → n ≤ length l → part ≡ replicate (length (mid_of k (n - k) l)) unused

@@ -9,11 +9,9 @@ ghost use Rattle.lists.specs.Lists.{listed, listed_count};
 pub fn list_one(list: &mut [u32], found: usize, x: u32, whole: bool) -> usize
     ensures { (list.new ≡ listed list.old found x whole) × (result ≡ listed_count list.old found whole) }
 {
-    if whole {
-        if found < list.len() {
-            list[found] = x;
-            return found + 1;
-        }
+    if whole && found < list.len() {
+        list[found] = x;
+        return found + 1;
     }
     found
 }

@@ -1,6 +1,6 @@
 // What follows a list in its buffer: "unused" up to the number of windows.
 //
-// Follows docs/RULES.md, "What is written". One store an entry, in a loop with nothing to look at, which the compiler makes stores of blocks.
+// Follows docs/RULES.md, "What is written". One store an entry, which the compiler makes stores of blocks.
 
 ghost use Rattle.std.specs.Prelude.{◌≡◌, length, replicate};
 ghost use Rattle.order.specs.Sizes.{unused};
@@ -11,7 +11,5 @@ use order::UNUSED;
 pub fn fill_unused(part: &mut [u32])
     ensures { part.new ≡ replicate (length part.old) unused }
 {
-    for k in 0..part.len() {
-        part[k] = UNUSED;
-    }
+    part.fill(UNUSED);
 }

@@ -12,7 +12,7 @@ use mir.Syntax.{w32}
 use mir.Val.{to_z, of_z, SFits}
 use mir.Facts.{to_z-of_z}
 use borrow.Author.Tests.{leb-true, eqb-true, eqb-false}
-use Rattle.order.specs.declared.relation.Relation.TheVariants.{Less, Equal, Greater}
+use Rattle.std.specs.declared.cmp.Ordering.TheVariants.{Less, Equal, Greater}
 use Rattle.order.specs.Sizes.{at}
 use Rattle.order.specs.Relations.{rel, alike}
 use Rattle.order.specs.EntryTest.{told}

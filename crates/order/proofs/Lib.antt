@@ -20,3 +20,4 @@ pub mod Dueling
 pub mod SweepLaws
 pub mod Whole
 pub mod Rows
+pub mod Answered

@@ -8,7 +8,7 @@ use mathlib.Core.Bool.{true, false, not}
 use native.Mathlib.Omega.{arith}
 use lib.IntN.{ℤ}
 use lib.ListN.{length, length-take, length-drop}
-use Rattle.order.specs.declared.relation.Relation.TheVariants.{Equal}
+use Rattle.std.specs.declared.cmp.Ordering.TheVariants.{Equal}
 use Rattle.order.specs.Sizes.{Spot, none, place, at, is_none, window}
 use Rattle.order.specs.Relations.{rel}
 use Rattle.order.specs.Lost.{lost, is_lost, first_lost_lem, NoneLost, holds_lost_lem}

@@ -9,8 +9,8 @@ use lib.Dec.{leb, ltb}
 use lib.IntN.{ℤ, pos, negsuc}
 use lib.Signed.{le_z, lt_z}
 use borrow.Author.Tests.{leb-true, leb-false, le-leb, lt-ltb, le-ltb}
-use Rattle.order.specs.declared.relation.Relation.{Relation}
-use Rattle.order.specs.declared.relation.Relation.TheVariants.{Less, Equal, Greater}
+use Rattle.std.specs.declared.cmp.Ordering.{Ordering}
+use Rattle.std.specs.declared.cmp.Ordering.TheVariants.{Less, Equal, Greater}
 use Rattle.order.specs.Relations.{rel, alike}
 use Rattle.order.proofs.Tests.{clash}
 
@@ -58,7 +58,7 @@ le_z_trans (negsuc a) (negsuc b) (pos c) p q = refl
 le_z_trans (negsuc a) (negsuc b) (negsuc c) p q = leb_trans c b a q p
 
 -- the relation from the two tests
-abbrev rel_told : Bool → Bool → Relation
+abbrev rel_told : Bool → Bool → Ordering
 rel_told t s = cond t (cond s Equal Less) Greater
 
 -- the relation from the machine's tests
@@ -88,7 +88,7 @@ rel_equal a b e f = go (le_z a b) (le_z b a) refl refl
     go false s h k = clash (lt_z_not_le_z b a ∙ ap not h) f
 
 -- alike is equality of relations
-pub alike_same : (r s : Relation) → alike r s ≡ true → r ≡ s
+pub alike_same : (r s : Ordering) → alike r s ≡ true → r ≡ s
 alike_same Less Less e = refl
 alike_same Less Equal e = clash e refl
 alike_same Less Greater e = clash e refl
@@ -99,7 +99,7 @@ alike_same Greater Less e = clash e refl
 alike_same Greater Equal e = clash e refl
 alike_same Greater Greater e = refl
 
-pub alike_refl : (r : Relation) → alike r r ≡ true
+pub alike_refl : (r : Ordering) → alike r r ≡ true
 alike_refl Less = refl
 alike_refl Equal = refl
 alike_refl Greater = refl

@@ -11,8 +11,8 @@ use lib.ListN.{length}
 use lib.Signed.{le_z}
 use lib.Dec.{ltb, eqb}
 use borrow.Author.Tests.{eq-eqb, ne_eqb, eqb-true, eqb-false, lt-ltb, le-ltb}
-use Rattle.order.specs.declared.relation.Relation.{Relation}
-use Rattle.order.specs.declared.relation.Relation.TheVariants.{Less, Equal, Greater}
+use Rattle.std.specs.declared.cmp.Ordering.{Ordering}
+use Rattle.std.specs.declared.cmp.Ordering.TheVariants.{Less, Equal, Greater}
 use Rattle.order.specs.declared.steps.Tested.TheVariants.{Passed, Failed}
 use Rattle.order.specs.Sizes.{Spot, none, place, as_place, at, entry, no_place}
 use Rattle.order.specs.Relations.{rel, alike}
@@ -50,7 +50,7 @@ module _ (P : List ℤ) (j i : ℕ) where
 
 module _ (P v : List ℤ) (j : ℕ) where
   -- one comparison, of a relation that is known
-  against-known : (c i : ℕ) (r : Relation) (t : Bool) → rel (at P j) (at P i) ≡ r → alike (rel (at v j) (at v i)) r ≡ t →
+  against-known : (c i : ℕ) (r : Ordering) (t : Bool) → rel (at P j) (at P i) ≡ r → alike (rel (at v j) (at v i)) r ≡ t →
       against P v j c (place i) ≡ cond t (Passed (c + 1)) (Failed (c + 1) (as_place i))
   unfolding against matches
   against-known c i r t e h = rw (e, h) refl

@@ -1,15 +1,15 @@
 -- The test of a place by its neighbours' entries alone, on any list and with any two entries: an entry that is no place of the
 -- list counts as none. With the pattern's own entries it comes to the rules' test (proofs/TestByEntries).
 use Rattle.std.specs.Prelude.{ℕ, ◌+◌, List, Bool, cond, ltb, eqb, ℤ, length}
-use Rattle.order.specs.declared.relation.Relation.{Relation}
-use Rattle.order.specs.declared.relation.Relation.TheVariants.{Less, Equal, Greater}
+use Rattle.std.specs.declared.cmp.Ordering.{Ordering}
+use Rattle.std.specs.declared.cmp.Ordering.TheVariants.{Less, Equal, Greater}
 use Rattle.order.specs.declared.steps.Tested.{Tested}
 use Rattle.order.specs.declared.steps.Tested.TheVariants.{Passed, Failed}
 use Rattle.order.specs.Sizes.{as_place, at}
 use Rattle.order.specs.Relations.{rel, alike}
 
 -- whether v[j] against v[i] compares as r
-abbrev pub told : List ℤ → ℕ → ℕ → Relation → Bool
+abbrev pub told : List ℤ → ℕ → ℕ → Ordering → Bool
 told v j i r = alike (rel (at v j) (at v i)) r
 
 -- whether v[j] is less than its high neighbour, after c comparisons were spent

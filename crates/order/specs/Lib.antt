@@ -16,3 +16,4 @@ pub mod Written
 pub mod Demands
 pub mod Recordings
 pub mod Refusals
+pub mod Answers

@@ -1,6 +1,6 @@
 -- "Lost stitches": the one sample that is no tension, and the lists that hold it.
 use Rattle.std.specs.Prelude.{ℕ, ◌<◌, ◌≡◌, List, Bool, not, ℤ, negsuc, length}
-use Rattle.order.specs.declared.relation.Relation.TheVariants.{Equal}
+use Rattle.std.specs.declared.cmp.Ordering.TheVariants.{Equal}
 use Rattle.order.specs.Sizes.{Spot, at, is_none, lowest}
 use Rattle.order.specs.Relations.{rel, alike}
 

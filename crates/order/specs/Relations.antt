@@ -1,15 +1,15 @@
 -- "Relation": how one sample compares with another, which has three outcomes.
 use Rattle.std.specs.Prelude.{Bool, true, false, cond, ℤ}
 use Rattle.std.specs.Int.Signed.{le_z}
-use Rattle.order.specs.declared.relation.Relation.{Relation}
-use Rattle.order.specs.declared.relation.Relation.TheVariants.{Less, Equal, Greater}
+use Rattle.std.specs.declared.cmp.Ordering.{Ordering}
+use Rattle.std.specs.declared.cmp.Ordering.TheVariants.{Less, Equal, Greater}
 
 -- equal where each is at most the other, less where only the first is, greater otherwise
-unfoldable pub rel : ℤ → ℤ → Relation
+unfoldable pub rel : ℤ → ℤ → Ordering
 rel a b = cond (le_z a b) (cond (le_z b a) Equal Less) Greater
 
 -- whether two comparisons told the same
-abbrev pub alike : Relation → Relation → Bool
+abbrev pub alike : Ordering → Ordering → Bool
 alike Less Less = true
 alike Less Equal = false
 alike Less Greater = false

@@ -21,11 +21,6 @@ impl Offset {
     pub fn between(x: Window, y: Window) -> Offset
         ensures { result.0 ≡ distance x.0 y.0 }
     {
-        let a = x.0;
-        let b = y.0;
-        if a <= b {
-            return Offset(b - a);
-        }
-        Offset(a - b)
+        Offset(x.0.abs_diff(y.0))
     }
 }

@@ -16,5 +16,5 @@ pub use kinds::{Offset, Place, Window};
 pub use limits::{INPUT_LIMIT, LOST, NONE, PATTERN_LIMIT, RECORDING_LIMIT, TRACE_LIMIT, UNUSED};
 pub use place_test::test_place;
 pub use refusal::{Fault, Refusal, Table};
-pub use relation::{Relation, compare};
+pub use relation::compare;
 pub use steps::{Counts, Meeting, Tested};

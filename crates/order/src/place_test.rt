@@ -6,35 +6,10 @@
 // most two comparisons and assumes nothing.
 
 ghost use Rattle.std.specs.Prelude.{◌≡◌, ◌<◌, ◌≤◌, length};
-ghost use Rattle.order.specs.declared.relation.Relation.TheVariants.{Less, Equal, Greater};
-ghost use Rattle.order.specs.EntryTest.{told, under_high_lem, test_by};
+ghost use Rattle.order.specs.EntryTest.{under_high_lem, test_by};
 
 use crate::kinds::Place;
 use crate::steps::Tested;
-
-// Whether place j of a list is less than place i of it.
-fn less_there(v: &[i32], j: usize, i: usize) -> bool
-    requires { (j < length v.now) × (i < length v.now) }
-    ensures { result ≡ told v.now j i Less }
-{
-    v[j] < v[i]
-}
-
-// Whether it is greater.
-fn greater_there(v: &[i32], j: usize, i: usize) -> bool
-    requires { (j < length v.now) × (i < length v.now) }
-    ensures { result ≡ told v.now j i Greater }
-{
-    v[i] < v[j]
-}
-
-// Whether it is equal.
-fn equal_there(v: &[i32], j: usize, i: usize) -> bool
-    requires { (j < length v.now) × (i < length v.now) }
-    ensures { result ≡ told v.now j i Equal }
-{
-    v[j] == v[i]
-}
 
 // The high neighbour's part of a test, after so many comparisons.
 fn under_high(high: u16, v: &[i32], j: usize, spent: u32) -> Tested
@@ -45,7 +20,7 @@ fn under_high(high: u16, v: &[i32], j: usize, spent: u32) -> Tested
     if v.len() <= above {
         return Tested::Passed(spent);
     }
-    if less_there(v, j, above) {
+    if v[j] < v[above] {
         return Tested::Passed(spent + 1);
     }
     Tested::Failed(spent + 1, Place(above))
@@ -64,12 +39,12 @@ pub fn test_place(low: u16, high: u16, v: &[i32], j: Place) -> Tested
         return under_high(high, v, here, 0);
     }
     if low == high {
-        if equal_there(v, here, below) {
+        if v[here] == v[below] {
             return Tested::Passed(1);
         }
         return Tested::Failed(1, Place(below));
     }
-    if greater_there(v, here, below) {
+    if v[below] < v[here] {
         return under_high(high, v, here, 1);
     }
     Tested::Failed(1, Place(below))

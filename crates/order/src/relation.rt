@@ -3,23 +3,11 @@
 ghost use Rattle.std.specs.Prelude.{◌≡◌};
 ghost use Rattle.order.specs.Relations.{rel};
 
-// What a comparison of two samples tells.
-#[derive(Clone, Copy)]
-pub enum Relation {
-    Less,
-    Equal,
-    Greater,
-}
+use std::cmp::Ordering;
 
 // How a compares with b.
-pub fn compare(a: i32, b: i32) -> Relation
+pub fn compare(a: i32, b: i32) -> Ordering
     ensures { result ≡ rel a b }
 {
-    if a < b {
-        return Relation::Less;
-    }
-    if b < a {
-        return Relation::Greater;
-    }
-    Relation::Equal
+    a.cmp(&b)
 }

@@ -3,7 +3,8 @@
 
 use crate::kinds::Place;
 
-// What the test of one place comes to: the comparisons it spent and, where it failed, the place of the neighbour that failed.
+// What the test of one place comes to: the comparisons it spent and, where it failed, the place of the neighbour that failed. No Result,
+// since both cases carry what was spent.
 #[derive(Clone, Copy)]
 pub enum Tested {
     Passed(u32),

@@ -10,5 +10,5 @@ mod trailer;
 mod writing;
 
 pub use reading::{Reading, read};
-pub use trailer::{Trailed, Trailer};
-pub use writing::{Writing, write};
+pub use trailer::Trailer;
+pub use writing::write;

@@ -3,107 +3,78 @@
 //
 // Follows reference/README.md, "The stream of cases". A read for each number.
 
-ghost use Rattle.std.specs.Prelude.{◌≤◌, ◌<◌, length};
-
 use std::io::{Read, Stdin};
-use words::{from_bits, smaller, wide32, word_at};
 
-// Reads until the buffer is full, the input ends or a read fails.
-fn read_full<R: Read>(input: &mut R, buffer: &mut [u8]) {
-    let mut length = 0;
-    while length < buffer.len() {
-        match input.read(&mut buffer[length..]) {
-            Ok(0) | Err(_) => break,
-            Ok(n) => length += n,
-        }
-    }
+// The next N bytes; where the input ends before them or a read fails, those that were there, and zeros.
+fn next<const N: usize>(input: &mut Stdin) -> [u8; N] {
+    let mut bytes = [0u8; N];
+    let _ = input.read_exact(&mut bytes);
+    bytes
 }
 
-// Fills a buffer of at most four bytes, and answers their number, the lowest byte first.
-fn fill(input: &mut Stdin, b: &mut [u8]) -> u32 {
-    read_full(input, b);
-    word_at(b, 0)
+pub(crate) fn read_byte(input: &mut Stdin) -> u8 {
+    u8::from_le_bytes(next(input))
 }
 
-// A number of at most four bytes.
-fn read_word(input: &mut Stdin, width: usize) -> u32 {
-    let mut b = [0u8; 4];
-    let w = smaller(width, 4);
-    fill(input, &mut b[0..w])
+pub(crate) fn read_short(input: &mut Stdin) -> u16 {
+    u16::from_le_bytes(next(input))
 }
 
-pub(crate) fn read_number(input: &mut Stdin, width: usize) -> usize
-    ensures { result < 4294967296 }
+// A length or an index, of two bytes.
+pub(crate) fn read_length(input: &mut Stdin) -> usize {
+    usize::from(read_short(input))
+}
+
+// A length or a window, of four bytes.
+pub(crate) fn read_long(input: &mut Stdin) -> usize {
+    u32::from_le_bytes(next(input)) as usize
+}
+
+fn read_sample(input: &mut Stdin) -> i32 {
+    i32::from_le_bytes(next(input))
+}
+
+// A sample of 8 bits.
+fn read_small_sample(input: &mut Stdin) -> i32 {
+    i32::from(i8::from_le_bytes(next(input)))
+}
+
+// The front of a buffer, so many entries of it or all that there are.
+pub(crate) fn lend<T>(list: &mut [T], count: usize) -> &mut [T] {
+    let n = count.min(list.len());
+    &mut list[..n]
+}
+
+// Fills a list, entry by entry.
+fn fill<T: Copy, F: Fn(&mut Stdin) -> T>(input: &mut Stdin, list: &mut [T], next: F)
+    requires { F.IsAlwaysCallable next }
 {
-    wide32(read_word(input, width))
-}
-
-// A length, or the most that there is room for.
-pub(crate) fn read_length(input: &mut Stdin, width: usize, most: usize) -> usize
-    ensures { result ≤ most }
-{
-    smaller(read_number(input, width), most)
-}
-
-// A table's entry.
-pub(crate) fn read_entry(input: &mut Stdin) -> u16 {
-    (read_word(input, 2) % 65536) as u16
-}
-
-// A sample of 8 bits in two's complement.
-fn from_byte(v: u32) -> i32 {
-    if v < 128 {
-        return from_bits(v);
-    }
-    from_bits(4294967040 + v % 256)
-}
-
-// The next sample of a list whose samples take so many bytes; with none, it is the one that stands for all.
-fn next_sample(input: &mut Stdin, width: usize, level: i32) -> i32 {
-    match width {
-        0 => level,
-        1 => from_byte(read_word(input, 1)),
-        _ => from_bits(read_word(input, 4)),
+    for x in list.iter_mut() {
+        *x = next(input);
     }
 }
 
-// The sample that stands for all, where one does.
-fn read_level(input: &mut Stdin, width: usize) -> i32 {
-    match width {
-        0 => from_bits(read_word(input, 4)),
-        _ => 0,
+// A list of samples: a count, a width, and the samples of that many bytes; of no bytes, one sample that stands for all.
+pub(crate) fn read_samples<'a>(input: &mut Stdin, samples: &'a mut [i32]) -> &'a [i32] {
+    let list = lend(samples, read_long(input));
+    match read_byte(input) {
+        0 => list.fill(read_sample(input)),
+        1 => fill(input, list, read_small_sample),
+        _ => fill(input, list, read_sample),
     }
+    list
 }
 
-// A list of samples: a count, a width, and the samples. Answers how many there are.
-pub(crate) fn read_samples(input: &mut Stdin, samples: &mut [i32]) -> usize
-    ensures { result ≤ length samples.new }
-{
-    let count = read_length(input, 4, samples.len());
-    let width = read_number(input, 1);
-    let level = read_level(input, width);
-    for k in 0..count {
-        samples[k] = next_sample(input, width, level);
-    }
-    count
+// A list of table entries, with their count before them.
+pub(crate) fn read_entries<'a>(input: &mut Stdin, entries: &'a mut [u16]) -> &'a [u16] {
+    let list = lend(entries, read_length(input));
+    fill(input, list, read_short);
+    list
 }
 
-// A list of table entries. Answers how many there are.
-pub(crate) fn read_entries(input: &mut Stdin, entries: &mut [u16]) -> usize
-    ensures { result ≤ length entries.new }
-{
-    let count = read_length(input, 2, entries.len());
-    for k in 0..count {
-        entries[k] = read_entry(input);
-    }
-    count
-}
-
-// Bytes, with their count before them. Answers how many there are.
-pub(crate) fn read_bytes(input: &mut Stdin, bytes: &mut [u8]) -> usize
-    ensures { result ≤ length bytes.new }
-{
-    let count = read_length(input, 4, bytes.len());
-    read_full(input, &mut bytes[0..count]);
-    count
+// Bytes, with their count before them.
+pub(crate) fn read_bytes<'a>(input: &mut Stdin, bytes: &'a mut [u8]) -> &'a [u8] {
+    let list = lend(bytes, read_long(input));
+    let _ = input.read_exact(list);
+    list
 }

@@ -4,27 +4,22 @@
 //
 // Buffers hold a guard value before each call. What a call must come to is docs/RULES.md's; a case takes what its call takes, the
 // clearing of its buffers, and a read or a write for each number. The buffers are as large as a case may ask for, 1 MB of stack.
-// The stream is replayed to its end also where a write fails; the program then ends with that error.
+// A write that fails ends the program with that error.
 
 #![tactic(auto)]
 
 mod input;
 mod output;
 
-use agreement::Agreement;
-use input::{read_bytes, read_entries, read_entry, read_length, read_number, read_samples};
-use order::{Counts, Window};
-use output::{
-    GUARD_SAMPLE, GUARD8, GUARD16, GUARD32, Output, number, pair, refusal, show_samples,
-    show_table, show_windows, word,
+use input::{
+    lend, read_byte, read_bytes, read_entries, read_length, read_long, read_samples, read_short,
 };
+use order::{Counts, Refusal, Window};
+use output::{GUARD_SAMPLE, GUARD8, GUARD16, GUARD32, refusal, show};
 use recording::Reading;
-use report::Reported;
-use search::Searched;
+use report::ShortText;
 use std::io;
 use std::io::Stdin;
-use tables::Prepared;
-use words::{smaller, wide32};
 
 // The most that a case may ask for: entries of a table, samples of a recording, samples of a trace and windows, bytes of a recording,
 // bytes of a text, and cases.
@@ -42,309 +37,205 @@ const CASES: usize = 1000000;
 
 // ---- preparation
 
-fn show_prepared(out: &mut Output, answer: Prepared) {
-    word(out, b"prepare");
+fn show_prepared(rt: &impl Print, answer: Result<(), Refusal>) -> io::Result<()> {
+    print!(rt; "prepare")?;
     match answer {
-        Prepared::Done => pair(out, 0, 0),
-        Prepared::Refused(why) => refusal(out, why),
+        Ok(()) => print!(rt; " 0 0\n"),
+        Err(why) => refusal(rt, why),
     }
 }
 
-fn prepare_into(
-    out: &mut Output,
-    pattern: &[i32],
-    low: &mut [u16],
-    high: &mut [u16],
-    witness_i: &mut [u16],
-    witness_j: &mut [u16],
-) {
-    show_prepared(
-        out,
-        tables::prepare(pattern, low, high, witness_i, witness_j),
-    );
-    show_table(out, b"low", low);
-    show_table(out, b"high", high);
-    show_table(out, b"wi", witness_i);
-    show_table(out, b"wj", witness_j);
-}
-
 // Prepares a pattern into tables of the lengths that follow.
-fn prepare_lent(input: &mut Stdin, out: &mut Output, pattern: &[i32]) {
-    let mut low = [GUARD16; TABLE];
-    let mut high = [GUARD16; TABLE];
-    let mut witness_i = [GUARD16; TABLE];
-    let mut witness_j = [GUARD16; TABLE];
-    let a = read_length(input, 2, TABLE);
-    let b = read_length(input, 2, TABLE);
-    let c = read_length(input, 2, TABLE);
-    let d = read_length(input, 2, TABLE);
-    prepare_into(
-        out,
-        pattern,
-        &mut low[0..a],
-        &mut high[0..b],
-        &mut witness_i[0..c],
-        &mut witness_j[0..d],
-    );
-}
-
-fn replay_prepare(input: &mut Stdin, out: &mut Output) {
-    let mut pattern = [0i32; TABLE];
-    let m = read_samples(input, &mut pattern);
-    prepare_lent(input, out, &pattern[0..m]);
+fn replay_prepare(input: &mut Stdin, rt: &impl Print) -> io::Result<()> {
+    let mut samples = [0i32; TABLE];
+    let pattern = read_samples(input, &mut samples);
+    let mut lows = [GUARD16; TABLE];
+    let mut highs = [GUARD16; TABLE];
+    let mut is = [GUARD16; TABLE];
+    let mut js = [GUARD16; TABLE];
+    let low = lend(&mut lows, read_length(input));
+    let high = lend(&mut highs, read_length(input));
+    let witness_i = lend(&mut is, read_length(input));
+    let witness_j = lend(&mut js, read_length(input));
+    show_prepared(
+        rt,
+        tables::prepare(pattern, low, high, witness_i, witness_j),
+    )?;
+    show(rt, "low", low)?;
+    show(rt, "high", high)?;
+    show(rt, "wi", witness_i)?;
+    show(rt, "wj", witness_j)
 }
 
 // ---- search
 
-fn show_counts(out: &mut Output, c: Counts) {
-    number(out, 0);
-    number(out, 0);
-    number(out, wide32(c.windows));
-    number(out, wide32(c.duels));
-    number(out, wide32(c.survivors));
-    number(out, wide32(c.sweep));
-    pair(out, wide32(c.found), wide32(c.struck));
-}
-
-fn show_searched(out: &mut Output, answer: Searched) {
-    word(out, b"search");
+fn show_searched(rt: &impl Print, answer: Result<Counts, Refusal>) -> io::Result<()> {
+    print!(rt; "search")?;
     match answer {
-        Searched::Done(c) => show_counts(out, c),
-        Searched::Refused(why) => refusal(out, why),
+        Ok(c) => println!(rt;
+            " 0 0 {} {} {} {} {} {}",
+            c.windows, c.duels, c.survivors, c.sweep, c.found, c.struck
+        ),
+        Err(why) => refusal(rt, why),
     }
 }
 
-// Changes one entry of a table, if it is the one that is meant and has such an entry.
-fn damage(table: &mut [u16], number: usize, meant: usize, entry: usize, value: u16) {
-    if number != meant {
-        return;
+// Changes an entry of a table, if there is such an entry.
+fn alter(table: &mut [u16], entry: usize, value: u16) {
+    if let Some(x) = table.get_mut(entry) {
+        *x = value;
     }
-    if table.len() <= entry {
-        return;
-    }
-    table[entry] = value;
 }
 
-fn read_damages(
+// Changes one entry of the table that is meant, if there is such a table.
+fn damage(
     input: &mut Stdin,
     low: &mut [u16],
     high: &mut [u16],
     witness_i: &mut [u16],
     witness_j: &mut [u16],
 ) {
-    for _ in 0..read_number(input, 1) {
-        let table = read_number(input, 1);
-        let entry = read_number(input, 2);
-        let value = read_entry(input);
-        damage(low, 1, table, entry, value);
-        damage(high, 2, table, entry, value);
-        damage(witness_i, 3, table, entry, value);
-        damage(witness_j, 4, table, entry, value);
+    let table = read_byte(input);
+    let entry = read_length(input);
+    let value = read_short(input);
+    match table {
+        1 => alter(low, entry, value),
+        2 => alter(high, entry, value),
+        3 => alter(witness_i, entry, value),
+        4 => alter(witness_j, entry, value),
+        _ => {}
     }
 }
 
-fn search_into(
-    out: &mut Output,
-    pattern: &[i32],
-    low: &[u16],
-    high: &[u16],
-    witness_i: &[u16],
-    witness_j: &[u16],
-    trace: &[i32],
-    survivors: &mut [u32],
-    positions: &mut [u32],
-) {
-    show_searched(
-        out,
-        search::search(
-            pattern, low, high, witness_i, witness_j, trace, survivors, positions,
-        ),
-    );
-    show_windows(out, b"survivors", survivors);
-    show_windows(out, b"positions", positions);
-}
-
-// Searches the trace that follows, into buffers of the lengths after it.
-fn search_lent(
-    input: &mut Stdin,
-    out: &mut Output,
-    pattern: &[i32],
-    low: &[u16],
-    high: &[u16],
-    witness_i: &[u16],
-    witness_j: &[u16],
-) {
-    let mut trace = [0i32; TRACE];
-    let n = read_samples(input, &mut trace);
-    let mut survivors = [GUARD32; TRACE];
-    let mut positions = [GUARD32; TRACE];
-    let s = read_length(input, 4, TRACE);
-    let r = read_length(input, 4, TRACE);
-    search_into(
-        out,
-        pattern,
-        low,
-        high,
-        witness_i,
-        witness_j,
-        &trace[0..n],
-        &mut survivors[0..s],
-        &mut positions[0..r],
-    );
-}
-
-// Searches by a pattern's tables, with some entries damaged, at the lengths that come before the damages.
-fn search_by(input: &mut Stdin, out: &mut Output, pattern: &[i32]) {
+// Searches the trace that follows by a pattern's tables, with some entries damaged, at the lengths that come before the damages, and into
+// buffers of the lengths after the trace.
+fn replay_search(input: &mut Stdin, rt: &impl Print) -> io::Result<()> {
+    let mut samples = [0i32; TABLE];
+    let pattern = read_samples(input, &mut samples);
     let mut low = [0u16; TABLE];
     let mut high = [0u16; TABLE];
     let mut witness_i = [0u16; TABLE];
     let mut witness_j = [0u16; TABLE];
-    tables::prepare(pattern, &mut low, &mut high, &mut witness_i, &mut witness_j);
-    read_number(input, 1);
-    let a = read_length(input, 2, TABLE);
-    let b = read_length(input, 2, TABLE);
-    let c = read_length(input, 2, TABLE);
-    let d = read_length(input, 2, TABLE);
-    read_damages(input, &mut low, &mut high, &mut witness_i, &mut witness_j);
-    search_lent(
-        input,
-        out,
+    // A pattern that is refused leaves the tables as they are.
+    let _ = tables::prepare(pattern, &mut low, &mut high, &mut witness_i, &mut witness_j);
+    read_byte(input);
+    let a = read_length(input);
+    let b = read_length(input);
+    let c = read_length(input);
+    let d = read_length(input);
+    for _ in 0..read_byte(input) {
+        damage(input, &mut low, &mut high, &mut witness_i, &mut witness_j);
+    }
+    let mut trace = [0i32; TRACE];
+    let trace = read_samples(input, &mut trace);
+    let mut survivors = [GUARD32; TRACE];
+    let mut positions = [GUARD32; TRACE];
+    let survivors = lend(&mut survivors, read_long(input));
+    let positions = lend(&mut positions, read_long(input));
+    let answer = search::search(
         pattern,
-        &low[0..a],
-        &high[0..b],
-        &witness_i[0..c],
-        &witness_j[0..d],
+        lend(&mut low, a),
+        lend(&mut high, b),
+        lend(&mut witness_i, c),
+        lend(&mut witness_j, d),
+        trace,
+        survivors,
+        positions,
     );
-}
-
-fn replay_search(input: &mut Stdin, out: &mut Output) {
-    let mut pattern = [0i32; TABLE];
-    let m = read_samples(input, &mut pattern);
-    search_by(input, out, &pattern[0..m]);
+    show_searched(rt, answer)?;
+    show(rt, "survivors", survivors)?;
+    show(rt, "positions", positions)
 }
 
 // ---- the call on two windows
 
-fn show_agreement(out: &mut Output, answer: Agreement) {
-    word(out, b"agree");
+fn show_agreement(rt: &impl Print, answer: Result<bool, Refusal>) -> io::Result<()> {
+    print!(rt; "agree")?;
     match answer {
-        Agreement::Agree => pair(out, 0, 1),
-        Agreement::Differ => pair(out, 0, 0),
-        Agreement::Refused(why) => refusal(out, why),
+        Ok(true) => print!(rt; " 0 1\n"),
+        Ok(false) => print!(rt; " 0 0\n"),
+        Err(why) => refusal(rt, why),
     }
 }
 
-fn replay_agree(input: &mut Stdin, out: &mut Output) {
-    let mut witness_i = [0u16; TABLE];
-    let mut witness_j = [0u16; TABLE];
-    let m = read_number(input, 4);
-    let i = read_entries(input, &mut witness_i);
-    let j = read_entries(input, &mut witness_j);
-    let x = read_number(input, 4);
-    let y = read_number(input, 4);
-    show_agreement(
-        out,
-        agreement::agree(m, &witness_i[0..i], &witness_j[0..j], Window(x), Window(y)),
-    );
+fn replay_agree(input: &mut Stdin, rt: &impl Print) -> io::Result<()> {
+    let mut is = [0u16; TABLE];
+    let mut js = [0u16; TABLE];
+    let m = read_long(input);
+    let witness_i = read_entries(input, &mut is);
+    let witness_j = read_entries(input, &mut js);
+    let x = Window(read_long(input));
+    let y = Window(read_long(input));
+    show_agreement(rt, agreement::agree(m, witness_i, witness_j, x, y))
 }
 
 // ---- reading
 
-fn show_reading(out: &mut Output, answer: Reading) {
-    word(out, b"read");
+fn show_reading(rt: &impl Print, answer: Result<Reading, Refusal>) -> io::Result<()> {
+    print!(rt; "read")?;
     match answer {
-        Reading::Done { count, first } => {
-            number(out, 0);
-            number(out, 0);
-            pair(out, count, first);
-        }
-        Reading::Refused(why) => refusal(out, why),
+        Ok(Reading { count, first }) => print!(rt; " 0 0 {count} {first}\n"),
+        Err(why) => refusal(rt, why),
     }
 }
 
-fn read_into(out: &mut Output, bytes: &[u8], samples: &mut [i32]) {
-    show_reading(out, recording::read(bytes, samples));
-    show_samples(out, b"samples", samples);
-}
-
-fn replay_read(input: &mut Stdin, out: &mut Output) {
+fn replay_read(input: &mut Stdin, rt: &impl Print) -> io::Result<()> {
     let mut bytes = [0u8; BYTES];
-    let n = read_bytes(input, &mut bytes);
+    let bytes = read_bytes(input, &mut bytes);
     let mut samples = [GUARD_SAMPLE; SAMPLES];
-    let r = read_length(input, 4, SAMPLES);
-    read_into(out, &bytes[0..n], &mut samples[0..r]);
+    let samples = lend(&mut samples, read_long(input));
+    show_reading(rt, recording::read(bytes, samples))?;
+    show(rt, "samples", samples)
 }
 
 // ---- reports
 
-// Tells of a byte from an index on that should have stayed and did not, by a word that the reference never writes.
-fn show_overwritten(out: &mut Output, list: &[u8], from: usize) {
-    for k in from..list.len() {
-        if list[k] != GUARD8 {
-            word(out, b"overwritten\n");
-            return;
-        }
+// Tells of a byte that should have stayed and did not, by a word that the reference never writes.
+fn show_overwritten(rt: &impl Print, kept: &[u8]) -> io::Result<()> {
+    if kept.iter().any(|byte| *byte != GUARD8) {
+        return print!(rt; "overwritten\n");
     }
-}
-
-fn show_written(out: &mut Output, text: &[u8], length: usize) {
-    let n = smaller(length, text.len());
-    word(out, &text[0..n]);
-    show_overwritten(out, text, n);
+    Ok(())
 }
 
 // A report's length, and then the text, or that the buffer was kept.
-fn show_reported(out: &mut Output, answer: Reported, text: &[u8]) {
-    word(out, b"report");
+fn show_reported(rt: &impl Print, answer: Result<usize, ShortText>, text: &[u8]) -> io::Result<()> {
     match answer {
-        Reported::Written(length) => {
-            number(out, length);
-            word(out, b"\n");
-            show_written(out, text, length);
+        Ok(length) => {
+            print!(rt; "report {length}\n")?;
+            let (written, rest) = text.split_at(length.min(text.len()));
+            rt.write_all(written)?;
+            show_overwritten(rt, rest)
         }
-        Reported::Short(length) => {
-            number(out, length);
-            word(out, b"\nkept\n");
-            show_overwritten(out, text, 0);
+        Err(ShortText(length)) => {
+            print!(rt; "report {length}\nkept\n")?;
+            show_overwritten(rt, text)
         }
     }
 }
 
-fn report_into(out: &mut Output, bytes: &[u8], text: &mut [u8]) {
-    let answer = report::report(bytes, text);
-    show_reported(out, answer, text);
-}
-
-fn replay_report(input: &mut Stdin, out: &mut Output) {
+fn replay_report(input: &mut Stdin, rt: &impl Print) -> io::Result<()> {
     let mut bytes = [0u8; BYTES];
-    let n = read_bytes(input, &mut bytes);
+    let bytes = read_bytes(input, &mut bytes);
     let mut text = [GUARD8; TEXT];
-    let r = read_length(input, 4, TEXT);
-    report_into(out, &bytes[0..n], &mut text[0..r]);
+    let text = lend(&mut text, read_long(input));
+    show_reported(rt, report::report(bytes, text), text)
 }
 
 // ---- the stream
 
-// Replays one case; answers false at the stream's end.
-fn replay_one(input: &mut Stdin, out: &mut Output) -> bool {
-    match read_number(input, 1) {
-        1 => replay_prepare(input, out),
-        2 => replay_search(input, out),
-        3 => replay_agree(input, out),
-        4 => replay_read(input, out),
-        5 => replay_report(input, out),
-        _ => return false,
-    }
-    true
-}
-
 fn main(rt: HostRuntime) -> io::Result<()> {
     let mut input = rt.stdin();
-    let mut out = Output::new(rt);
     for _ in 0..CASES {
-        if !replay_one(&mut input, &mut out) {
-            break;
+        match read_byte(&mut input) {
+            1 => replay_prepare(&mut input, &rt)?,
+            2 => replay_search(&mut input, &rt)?,
+            3 => replay_agree(&mut input, &rt)?,
+            4 => replay_read(&mut input, &rt)?,
+            5 => replay_report(&mut input, &rt)?,
+            // Byte 0 ends the stream.
+            _ => break,
         }
     }
-    out.ended()
+    Ok(())
 }

@@ -2,11 +2,9 @@
 //
 // Follows reference/README.md, "The stream of cases". A write for each word and number.
 
-ghost use Rattle.std.specs.Prelude.{◌+◌, ◌≤◌, ◌<◌};
-
 use order::{Refusal, UNUSED};
+use std::fmt::Display;
 use std::io;
-use words::{wide16, wide32};
 
 // What buffers hold before a call, so that an entry which the call should have kept shows.
 pub(crate) const GUARD8: u8 = 170;
@@ -17,194 +15,75 @@ pub(crate) const GUARD32: u32 = 2863311530;
 
 pub(crate) const GUARD_SAMPLE: i32 = -1431655766;
 
-// Standard output. After a write that failed nothing more is written, and how it failed is kept.
-#[derive(Drop)]
-pub(crate) struct Output {
-    rt: HostRuntime,
-    ended: io::Result<()>,
+// A refusal's number and place, at a line's end.
+pub(crate) fn refusal(rt: &impl Print, why: Refusal) -> io::Result<()> {
+    let number = why.number();
+    let place = why.place();
+    println!(rt; " {number} {place}")
 }
 
-impl Output {
-    pub(crate) fn new(rt: HostRuntime) -> Output {
-        Output { rt, ended: Ok(()) }
-    }
-
-    // The first failure of a write, if there was one.
-    pub(crate) fn ended(self) -> io::Result<()> {
-        self.ended
-    }
+// Guards and entries "unused", of which a run is told by its length, and all other entries, which are told one by one.
+#[derive(Clone, Copy, PartialEq, Eq)]
+pub(crate) enum Mark {
+    Guard,
+    Unused,
+    Plain,
 }
 
-pub(crate) fn word(out: &mut Output, text: &[u8]) {
-    if out.ended.is_ok() {
-        out.ended = out.rt.write_all(text);
-    }
+// An entry of a list that is shown.
+pub(crate) trait Entry: Copy + Display {
+    fn mark(self) -> Mark;
 }
 
-// A number, without a space.
-fn decimal(out: &mut Output, n: u64) {
-    if out.ended.is_ok() {
-        out.ended = out.rt.print(n);
+impl Entry for u16 {
+    fn mark(self) -> Mark {
+        match self {
+            GUARD16 => Mark::Guard,
+            _ => Mark::Plain,
+        }
     }
 }
 
-// A space and a number.
-pub(crate) fn number(out: &mut Output, n: usize) {
-    word(out, b" ");
-    decimal(out, n as u64);
-}
-
-// A line's last two numbers.
-pub(crate) fn pair(out: &mut Output, a: usize, b: usize) {
-    number(out, a);
-    number(out, b);
-    word(out, b"\n");
-}
-
-// A refusal's number and place.
-pub(crate) fn refusal(out: &mut Output, why: Refusal) {
-    pair(out, why.number(), why.place());
-}
-
-// A space and a sample, with its sign.
-fn integer(out: &mut Output, x: i32) {
-    if x < 0 {
-        word(out, b" -");
-        decimal(out, magnitude(!x) + 1);
-        return;
+impl Entry for i32 {
+    fn mark(self) -> Mark {
+        match self {
+            GUARD_SAMPLE => Mark::Guard,
+            _ => Mark::Plain,
+        }
     }
-    number(out, magnitude(x) as usize);
 }
 
-// A sample that is not below 0.
-fn magnitude(x: i32) -> u64
-    ensures { result < 2147483648 }
-{
-    if x < 0 {
-        return 0;
+impl Entry for u32 {
+    fn mark(self) -> Mark {
+        match self {
+            GUARD32 => Mark::Guard,
+            UNUSED => Mark::Unused,
+            _ => Mark::Plain,
+        }
     }
-    x as u64
 }
 
-// The marks of a guard and of "unused", of which a run is told by its length, and of all other entries, which are told one by one.
-const GUARD: u8 = b'g';
-
-const NOTHING: u8 = b'u';
-
-const PLAIN: u8 = b' ';
-
-// The entries with one mark up to the one that is looked at.
-#[derive(Clone, Copy)]
-struct Run {
-    mark: u8,
-    length: usize,
-}
-
-// Tells a run that has ended.
-fn tell(out: &mut Output, run: Run) {
-    if run.mark == PLAIN {
-        return;
+// Entries that all have one mark.
+fn show_run<T: Entry>(rt: &impl Print, run: &[T]) -> io::Result<()> {
+    let length = run.len();
+    match run.first().map(|x| x.mark()) {
+        Some(Mark::Guard) => print!(rt; " g{length}"),
+        Some(Mark::Unused) => print!(rt; " u{length}"),
+        Some(Mark::Plain) => {
+            for entry in run {
+                print!(rt; " {entry}")?;
+            }
+            Ok(())
+        }
+        None => Ok(()),
     }
-    word(out, b" ");
-    let mark = [run.mark];
-    word(out, &mark);
-    decimal(out, run.length as u64);
 }
 
-// The run after one more entry; where it has another mark, the run before is told.
-fn go_on(out: &mut Output, run: Run, mark: u8) -> Run
-    requires { run.length < 18446744073709551615 }
-    ensures { result.length ≤ run.length + 1 }
-{
-    if mark == run.mark {
-        return Run {
-            mark,
-            length: run.length + 1,
-        };
+// A list on a line of its own: its name and its entries.
+pub(crate) fn show<T: Entry>(rt: &impl Print, name: &str, list: &[T]) -> io::Result<()> {
+    print!(rt; "{name}")?;
+    for run in list.chunk_by(|a, b| a.mark() == b.mark()) {
+        show_run(rt, run)?;
     }
-    tell(out, run);
-    Run { mark, length: 1 }
-}
-
-fn end_line(out: &mut Output, run: Run) {
-    tell(out, run);
-    word(out, b"\n");
-}
-
-fn tell_entry(out: &mut Output, run: Run, entry: u16) -> Run
-    requires { run.length < 18446744073709551615 }
-    ensures { result.length ≤ run.length + 1 }
-{
-    if entry == GUARD16 {
-        return go_on(out, run, GUARD);
-    }
-    let next = go_on(out, run, PLAIN);
-    number(out, wide16(entry));
-    next
-}
-
-fn tell_sample(out: &mut Output, run: Run, x: i32) -> Run
-    requires { run.length < 18446744073709551615 }
-    ensures { result.length ≤ run.length + 1 }
-{
-    if x == GUARD_SAMPLE {
-        return go_on(out, run, GUARD);
-    }
-    let next = go_on(out, run, PLAIN);
-    integer(out, x);
-    next
-}
-
-fn tell_window(out: &mut Output, run: Run, x: u32) -> Run
-    requires { run.length < 18446744073709551615 }
-    ensures { result.length ≤ run.length + 1 }
-{
-    if x == GUARD32 {
-        return go_on(out, run, GUARD);
-    }
-    if x == UNUSED {
-        return go_on(out, run, NOTHING);
-    }
-    let next = go_on(out, run, PLAIN);
-    number(out, wide32(x));
-    next
-}
-
-// A table on a line of its own: its name and its entries.
-pub(crate) fn show_table(out: &mut Output, name: &[u8], table: &[u16]) {
-    word(out, name);
-    let mut run = Run {
-        mark: PLAIN,
-        length: 0,
-    };
-    for k in 0..table.len() {
-        run = tell_entry(out, run, table[k]);
-    }
-    end_line(out, run);
-}
-
-// A list of samples.
-pub(crate) fn show_samples(out: &mut Output, name: &[u8], list: &[i32]) {
-    word(out, name);
-    let mut run = Run {
-        mark: PLAIN,
-        length: 0,
-    };
-    for k in 0..list.len() {
-        run = tell_sample(out, run, list[k]);
-    }
-    end_line(out, run);
-}
-
-// A list of windows.
-pub(crate) fn show_windows(out: &mut Output, name: &[u8], list: &[u32]) {
-    word(out, name);
-    let mut run = Run {
-        mark: PLAIN,
-        length: 0,
-    };
-    for k in 0..list.len() {
-        run = tell_window(out, run, list[k]);
-    }
-    end_line(out, run);
+    print!(rt; "\n")
 }

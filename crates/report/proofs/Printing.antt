@@ -37,14 +37,10 @@ pub item-put : {a b c word : List ℕ} {i j k : ℕ} (v : ℕ) → v < 184467440
 item-put {word = word} v h p q =
     let s = short_64 v h in let l = length-append word (decimal v) in record { put = put_more p q; few = omega arith }
 
-pub line-put : {a b c : List ℕ} {i j k v w : ℕ} → (w ≡ v) × (w < 4294967296) → Put a i (decimal w) b j → Put b j newline c k
+pub line-put : {a b c : List ℕ} {i j k v : ℕ} → v < 4294967296 → Put a i (decimal v) b j → Put b j newline c k
     → PutWithin a i (decimal v ++ newline) c k line_room
-line-put {v = v} {w} e p q =
-    let s = short_32 w e.1 in
-    let m = e.0 in
-    let l = length-append (decimal v) newline in
-    let d = ap (λ n. length (decimal n)) m in
-    record { put = put_more (put_as (ap decimal m) p) q; few = omega arith }
+line-put {v = v} h p q =
+    let s = short_32 v h in let l = length-append (decimal v) newline in record { put = put_more p q; few = omega arith }
 
 -- ---- a refusal's line
 
@@ -57,30 +53,19 @@ refusal_put why s t p q r z =
 
 -- ---- the counts' line
 
-item_as : (word : List ℕ) {a b : List ℕ} {i j m : ℕ} (v : ℕ) {w : ℕ} → (w ≡ v) × (w < 4294967296) → PutWithin a i (word ++ decimal w) b j m → PutWithin a i (word ++ decimal v) b j m
-item_as word {a} {b} {i} {j} {m} v e p = subst (λ (n : ℕ). PutWithin a i (word ++ decimal n) b j m) e.0 p
-
 pub within-room : {a b s : List ℕ} {i j m : ℕ} → PutWithin a i s b j m → (n : ℕ) → i + m + n ≤ length a → j + n ≤ length b
 within-room p n h = let f = p.few in put-room p.put n (omega arith)
 
 newline-within : {a b : List ℕ} {i j : ℕ} → Put a i newline b j → PutWithin a i newline b j 1
 newline-within p = record { put = p; few = omega arith }
 
-pub counts_put : {a b₁ b₂ b₃ b₄ b₅ b₆ : List ℕ} {i₁ i₂ i₃ i₄ i₅ i₆ v₁ v₂ v₃ v₄ v₅ : ℕ} (c : Counts)
-    → (v₁ ≡ c.windows) × (v₁ < 4294967296) → (v₂ ≡ c.duels) × (v₂ < 4294967296) → (v₃ ≡ c.survivors) × (v₃ < 4294967296)
-    → (v₄ ≡ c.sweep) × (v₄ < 4294967296) → (v₅ ≡ c.found) × (v₅ < 4294967296)
-    → PutWithin a 0 (item "windows " v₁) b₁ i₁ 28 → PutWithin b₁ i₁ (item " duels " v₂) b₂ i₂ 27 → PutWithin b₂ i₂ (item " survivors " v₃) b₃ i₃ 31
-    → PutWithin b₃ i₃ (item " sweep " v₄) b₄ i₄ 27 → PutWithin b₄ i₄ (item " found " v₅) b₅ i₅ 27 → Put b₅ i₅ newline b₆ i₆
+pub counts_put : {a b₁ b₂ b₃ b₄ b₅ b₆ : List ℕ} {i₁ i₂ i₃ i₄ i₅ i₆ : ℕ} (c : Counts)
+    → PutWithin a 0 (item "windows " c.windows) b₁ i₁ 28 → PutWithin b₁ i₁ (item " duels " c.duels) b₂ i₂ 27 → PutWithin b₂ i₂ (item " survivors " c.survivors) b₃ i₃ 31
+    → PutWithin b₃ i₃ (item " sweep " c.sweep) b₄ i₄ 27 → PutWithin b₄ i₄ (item " found " c.found) b₅ i₅ 27 → Put b₅ i₅ newline b₆ i₆
     → PutWithin a 0 (counts_line c) b₆ i₆ counts_room
 unfolding counts_line
-counts_put c e₁ e₂ e₃ e₄ e₅ p₁ p₂ p₃ p₄ p₅ q =
-    within_more
-    (within_more
-    (within_more
-    (within_more (within_more (item_as (ascii "windows ") c.windows e₁ p₁) (item_as (ascii " duels ") c.duels e₂ p₂)) (item_as (ascii " survivors ") c.survivors e₃ p₃))
-    (item_as (ascii " sweep ") c.sweep e₄ p₄))
-    (item_as (ascii " found ") c.found e₅ p₅))
-    (newline-within q)
+counts_put c p₁ p₂ p₃ p₄ p₅ q =
+    within_more (within_more (within_more (within_more (within_more p₁ p₂) p₃) p₄) p₅) (newline-within q)
 
 -- ---- the positions' lines
 

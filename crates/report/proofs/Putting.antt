@@ -63,11 +63,3 @@ put_as {a} {b} {i} {j} e p = subst (λ (t : List ℕ). Put a i t b j) e p
 -- room for more
 pub put-room : {a b s : List ℕ} {i j : ℕ} → Put a i s b j → (n : ℕ) → i + length s + n ≤ length a → j + n ≤ length b
 put-room p n h = let e = p.ends in let l = put-long p in omega arith
-
--- a text's next byte
-module _ (t : List ℕ) (k : ℕ) (h : k < length t) where
-  pub put_next : {a b c : List ℕ} {i j e : ℕ} → Put a i (take k t) b j → Put b j (get_or t k 0 ∷ []) c e → Put a i (take (k + 1) t) c e
-  put_next p q = put_as (sym (ap (λ n. take n t) (add-one k) ∙ take-suc t k 0 h)) (put_more p q)
-
-  pub next_room : {a b : List ℕ} {i j : ℕ} → Put a i (take k t) b j → i + length t ≤ length a → j < length b
-  next_room p r = let l = length-take-le k t (omega arith) in let f = put-room p 1 (omega arith) in omega arith

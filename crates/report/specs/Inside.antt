@@ -1,5 +1,5 @@
 -- What the functions inside this crate ask of each other and leave behind: a text put into a buffer from a place on, and the place after it.
-use Rattle.std.specs.Prelude.{ℕ, ◌+◌, ◌*◌, ◌≤◌, ◌≡◌, List, ◌++◌, length, take, drop}
+use Rattle.std.specs.Prelude.{ℕ, ◌+◌, ◌*◌, ◌≤◌, ◌≡◌, List, ◌++◌, length, take, drop, Result, Err}
 use Rattle.order.specs.declared.refusal.Refusal.{Refusal}
 use Rattle.report.specs.Texts.{refusal_line}
 
@@ -35,5 +35,5 @@ pub record Listed (room held found : ℕ) : Type 0 where
   pub fits : counts_room + line_room * found ≤ room
 
 -- the line of an answer, if it is a refusal, at the front of a buffer
-pub record Said {A : Type 0} (refusing : Refusal → A) (before word : List ℕ) (answer : A) (after : List ℕ) (end : ℕ) : Type 0 where
-  pub line : (why : Refusal) → answer ≡ refusing why → Put before 0 (refusal_line word why) after end
+pub record Said {A : Type 0} (before word : List ℕ) (answer : Result A Refusal) (after : List ℕ) (end : ℕ) : Type 0 where
+  pub line : (why : Refusal) → answer ≡ Err why → Put before 0 (refusal_line word why) after end

@@ -9,4 +9,4 @@ mod lines;
 mod reporting;
 mod texts;
 
-pub use reporting::{Reported, TEXT_ROOM, report};
+pub use reporting::{ShortText, TEXT_ROOM, report};

@@ -7,7 +7,6 @@ ghost use Rattle.report.specs.Inside.{refusal_room, counts_room, line_room, Put,
 
 use crate::texts::{put_byte, put_item, put_line, put_text};
 use order::{Counts, Refusal};
-use words::wide32;
 
 // The line of a refusal, at the front of a buffer.
 pub(crate) fn put_refusal(out: &mut [u8], word: &[u8], why: Refusal) -> usize
@@ -25,22 +24,22 @@ fn put_counts(out: &mut [u8], counts: Counts) -> usize
     requires { counts_room ≤ length out.old }
     ensures { PutWithin out.old 0 (counts_line counts) out.new result counts_room }
 {
-    let windows = put_item(out, 0, b"windows ", wide32(counts.windows));
-    let duels = put_item(out, windows, b" duels ", wide32(counts.duels));
-    let survivors = put_item(out, duels, b" survivors ", wide32(counts.survivors));
-    let sweep = put_item(out, survivors, b" sweep ", wide32(counts.sweep));
-    let found = put_item(out, sweep, b" found ", wide32(counts.found));
+    let windows = put_item(out, 0, b"windows ", counts.windows as usize);
+    let duels = put_item(out, windows, b" duels ", counts.duels as usize);
+    let survivors = put_item(out, duels, b" survivors ", counts.survivors as usize);
+    let sweep = put_item(out, survivors, b" sweep ", counts.sweep as usize);
+    let found = put_item(out, sweep, b" found ", counts.found as usize);
     put_byte(out, found, b'\n')
 }
 
-// The first `found` positions, one to a line.
-fn put_positions(out: &mut [u8], at: usize, positions: &[u32], found: usize) -> usize
-    requires { (found ≤ length positions.now) × (at + line_room * found ≤ length out.old) }
-    ensures { Put out.old at (lines (take found positions.now)) out.new result }
+// The positions, one to a line.
+fn put_positions(out: &mut [u8], at: usize, positions: &[u32]) -> usize
+    requires { at + line_room * length positions.now ≤ length out.old }
+    ensures { Put out.old at (lines positions.now) out.new result }
 {
     let mut end = at;
-    for k in 0..found {
-        end = put_line(out, end, positions[k]);
+    for position in positions {
+        end = put_line(out, end, *position);
     }
     end
 }
@@ -51,5 +50,5 @@ pub(crate) fn put_answer(out: &mut [u8], counts: Counts, positions: &[u32]) -> u
     ensures { Put out.old 0 (counts_line counts ++ lines (take counts.found positions.now)) out.new result }
 {
     let end = put_counts(out, counts);
-    put_positions(out, end, positions, wide32(counts.found))
+    put_positions(out, end, &positions[..counts.found as usize])
 }

@@ -5,8 +5,6 @@ ghost use Rattle.std.specs.Prelude.{◌∷◌, [], ◌++◌, ◌+◌, ◌≤◌,
 ghost use Rattle.report.specs.Decimals.{digit, decimal};
 ghost use Rattle.report.specs.Inside.{number_room, line_room, Put, PutWithin};
 
-use words::wide32;
-
 pub(crate) fn put_byte(out: &mut [u8], at: usize, byte: u8) -> usize
     requires { at < length out.old }
     ensures { Put out.old at (byte ∷ []) out.new result }
@@ -19,10 +17,8 @@ pub(crate) fn put_text(out: &mut [u8], at: usize, text: &[u8]) -> usize
     requires { at + length text.now ≤ length out.old }
     ensures { Put out.old at text.now out.new result }
 {
-    let mut end = at;
-    for k in 0..text.len() {
-        end = put_byte(out, end, text[k]);
-    }
+    let end = at + text.len();
+    out[at..end].copy_from_slice(text);
     end
 }
 
@@ -30,10 +26,11 @@ fn put_digit(out: &mut [u8], at: usize, d: usize) -> usize
     requires { (d < 10) × (at < length out.old) }
     ensures { Put out.old at (digit d ∷ []) out.new result }
 {
-    put_byte(out, at, 48 + d as u8)
+    put_byte(out, at, b'0' + d as u8)
 }
 
-// A number in decimal: the digits before its last one, and then that one.
+// A number in decimal: the digits before its last one, and then that one. By hand, since the library's printing into a buffer answers a
+// `Result` that every caller would look at and none could get an `Err` of, and says its bytes in other words than specs/Decimals.antt.
 fn put_number(out: &mut [u8], at: usize, v: usize) -> usize
     requires { at + length (decimal v) ≤ length out.old }
     ensures { Put out.old at (decimal v) out.new result }
@@ -59,6 +56,6 @@ pub(crate) fn put_line(out: &mut [u8], at: usize, v: u32) -> usize
     requires { at + line_room ≤ length out.old }
     ensures { PutWithin out.old at (decimal v ++ (10 ∷ [])) out.new result line_room }
 {
-    let end = put_number(out, at, wide32(v));
+    let end = put_number(out, at, v as usize);
     put_byte(out, end, b'\n')
 }

@@ -11,7 +11,7 @@ use lib.IntN.{ℤ, pos}
 use lib.ListN.{length, drop}
 use lib.Seq.{get_or-drop}
 use borrow.Author.Tests.{eqb-true, eqb-false}
-use Rattle.order.specs.declared.relation.Relation.{Relation}
+use Rattle.std.specs.declared.cmp.Ordering.{Ordering}
 use Rattle.order.specs.declared.steps.Tested.TheVariants.{Passed, Failed}
 use Rattle.order.specs.Sizes.{as_place, at}
 use Rattle.order.specs.Relations.{rel, alike}
@@ -47,7 +47,7 @@ climb_begins P T x from before some h = go (eqb from x) refl
         let here : max from (x + 1) ≡ x + (from - x) = omega (arith, other) in
         record { sweeping = rw here (begin_at P T x from before (from - x) (omega arith)); past = omega arith; cheap = omega arith }
 
-module _ {P T : List ℤ} {way : Relation} {x from before e spent : ℕ} (s : Steady P way) (c : Climbs P T x from before e spent) where
+module _ {P T : List ℤ} {way : Ordering} {x from before e spent : ℕ} (s : Steady P way) (c : Climbs P T x from before e spent) where
   place_of : e ≡ x + (e - x)
   place_of = let p = c.past in omega arith
 

@@ -6,11 +6,11 @@ use mathlib.Core.Path.{◌≡◌, refl, sym, ◌∙◌, ap}
 use mathlib.Core.List.{List, []}
 use mathlib.Core.Bool.{Bool, true, false, cond, ◌||◌}
 use native.Mathlib.Omega.{arith}
+use Rattle.std.specs.Prelude.{Result, Ok}
 use lib.Dec.{leb}
 use lib.IntN.{ℤ}
 use lib.ListN.{length, get_or, length-reverse}
 use borrow.Author.Tests.{le-leb, lt-leb, leb-true, leb-false}
-use Rattle.order.specs.declared.refusal.Refusal.{Refusal}
 use Rattle.order.specs.declared.steps.Meeting.TheVariants.{Agree}
 use Rattle.order.specs.Sizes.{Spot, none, place, is_none, at, entry, no_place}
 use Rattle.order.specs.Relations.{rel}
@@ -21,8 +21,7 @@ use Rattle.order.specs.Refusals.{accepted}
 use Rattle.order.proofs.Dueling.{arrive-alike}
 use Rattle.order.proofs.Witnessing.{witness_is, none_together}
 use Rattle.duels.specs.declared.answers.Duelled.{Duelled}
-use Rattle.duels.specs.declared.answers.Duels.{Duels}
-use Rattle.duels.specs.declared.answers.Duels.TheVariants.{Done, Refused, Untold}
+use Rattle.duels.specs.declared.answers.Unfought.{Unfought}
 use Rattle.duels.specs.DuelPromise.{untold_at, meets_by, stack_by, duel_verdict, duelled_of, DuelPromise}
 use Rattle.duels.proofs.CodeLaws.{all_clear, inside-told, none_clear, told-clear}
 use Rattle.duels.proofs.MeetingByEntries.{far_agree as far-by-entries, none_agree, some-duel}
@@ -89,20 +88,14 @@ unfolding stack_by duelled
 own-stack {P} {wi} {wj} T own = arrive-alike (meets_by P wi wj T) (meets P T) (λ x y. own_meets T x y own) (entrants P T) (stacked [] 0)
 
 -- what the promise of the duels comes to
-module _ {P : List ℤ} {wi wj : List ℕ} {T : List ℤ} {before after : List ℕ} {r : Duels} (a : Dueling P wi wj T before) (p : DuelPromise P wi wj T before r after) where
+module _ {P : List ℤ} {wi wj : List ℕ} {T : List ℤ} {before after : List ℕ} {r : Result Duelled Unfought} (a : Dueling P wi wj T before) (p : DuelPromise P wi wj T before r after) where
   passed : duel_verdict (length P) (length wi) (length wj) (length T) (length before) ≡ accepted
   passed = duels-accepted (length P) (length wi) (length wj) (length T) (length before) a.some a.own.limit a.own.i_long a.own.j_long a.trace a.room
 
-  answered : r ≡ Done (duelled_of (duelled P T) (struck P T))
-  answered = p.answer ∙ rw (passed, all_clear P wi wj (own-clear a.own)) (ap (λ s. Done (duelled_of s (struck P T))) (own-stack T a.own))
+  pub answered : r ≡ Ok (duelled_of (duelled P T) (struck P T))
+  answered = p.answer ∙ rw (passed, all_clear P wi wj (own-clear a.own)) (ap (λ s. Ok (duelled_of s (struck P T))) (own-stack T a.own))
 
-  pub never_refused : {why : Refusal} → r ≡ Refused why → ⊥
-  never_refused {why} e = let q : Refused why ≡ Done (duelled_of (duelled P T) (struck P T)) = sym e ∙ answered in let z : ◌≡◌ {A = ℕ} 0 1 = cc in omega arith
-
-  pub never_untold : {o : ℕ} → r ≡ Untold o → ⊥
-  never_untold {o} e = let q : Untold o ≡ Done (duelled_of (duelled P T) (struck P T)) = sym e ∙ answered in let z : ◌≡◌ {A = ℕ} 0 1 = cc in omega arith
-
-  pub survivors_out : {d : Duelled} → r ≡ Done d → SurvivorsOf P T before after d
+  pub survivors_out : {d : Duelled} → r ≡ Ok d → SurvivorsOf P T before after d
   unfolding survivors duels
   survivors_out {d} e =
       let same : d ≡ duelled_of (duelled P T) (struck P T) = cc (answered) in

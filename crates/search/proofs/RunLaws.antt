@@ -13,7 +13,7 @@ use borrow.Author.Count.{below_more}
 use lib.IntN.{ℤ, pos}
 use lib.ListN.{length, get_or, drop, set}
 use lib.Seq.{get_or-drop}
-use Rattle.order.specs.declared.relation.Relation.{Relation}
+use Rattle.std.specs.declared.cmp.Ordering.{Ordering}
 use Rattle.order.specs.declared.steps.Tested.TheVariants.{Passed}
 use Rattle.order.specs.Sizes.{at}
 use Rattle.order.specs.Relations.{rel, alike}
@@ -32,10 +32,10 @@ use Rattle.search.proofs.SweepSteps.{last_passed, next_swept, entry_of, mem_at, 
 
 -- ---- samples that go on
 
-pub goes_nowhere : (T : List ℤ) (e : ℕ) (way : Relation) → GoesOn T e 0 way
+pub goes_nowhere : (T : List ℤ) (e : ℕ) (way : Ordering) → GoesOn T e 0 way
 goes_nowhere T e way = record { each = λ k h. absurd (omega arith) }
 
-pub goes_further : {T : List ℤ} {e count : ℕ} {way : Relation} → GoesOn T e count way → told T (e + 1 + count) (e + count) way ≡ true → GoesOn T e (count + 1) way
+pub goes_further : {T : List ℤ} {e count : ℕ} {way : Ordering} → GoesOn T e count way → told T (e + 1 + count) (e + count) way ≡ true → GoesOn T e (count + 1) way
 goes_further g h = record { each = below_more _ _ g.each h }
 
 -- ---- a run in the list
@@ -94,7 +94,7 @@ module _ {P T : List ℤ} {buffer : List ℕ} {kept : ℕ} (rows : Kept P T buff
     free : length P ≡ 1 → (i : ℕ) → test_of P (drop (x + i) T) (length P - 1) ≡ Passed 0
     free one i = let none : length P - 1 ≡ 0 = omega arith in rw none (first_place_free P (drop (x + i) T))
 
-    stepped : {way : Relation} {e : ℕ} → Steady P way → 1 < length P → e + 1 + 1 ≡ x + length P → GoesOn T e (count + 1) way
+    stepped : {way : Ordering} {e : ℕ} → Steady P way → 1 < length P → e + 1 + 1 ≡ x + length P → GoesOn T e (count + 1) way
         → (i : ℕ) → i ≤ count → test_of P (drop (x + i) T) (length P - 1) ≡ Passed 1
     stepped {way} {e} s some last goes i h =
         s.steps (drop (x + i) T) (length P - 1) (omega arith) (omega arith) ∙ rw (stands) refl
@@ -118,7 +118,7 @@ module _ {P T : List ℤ} {buffer : List ℕ} {kept : ℕ} (rows : Kept P T buff
           passes = λ i h. free one i;
         }
 
-    pub stepped_block : {way : Relation} {reach e : ℕ} → Steady P way → 1 < length P → reach + 1 ≡ x + length P → reach ≡ e + 1 → GoesOn T e (count + 1) way
+    pub stepped_block : {way : Ordering} {reach e : ℕ} → Steady P way → 1 < length P → reach + 1 ≡ x + length P → reach ≡ e + 1 → GoesOn T e (count + 1) way
         → RunOf P T buffer kept k reach (count + 1) (count + 1)
     stepped_block s some last from goes =
         record {

@@ -5,6 +5,7 @@ use Prim.Native.Nat.{ℕ, ◌≤◌}
 use mathlib.Core.Path.{◌≡◌, refl, sym, ◌∙◌, ap, subst₃}
 use mathlib.Core.List.{List}
 use native.Mathlib.Omega.{arith}
+use Rattle.std.specs.Prelude.{Result, Ok, Err}
 use lib.IntN.{ℤ}
 use lib.ListN.{length, take}
 use lib.Seq.{take_at}
@@ -18,24 +19,22 @@ use Rattle.order.specs.Demands.{Demands}
 use Rattle.order.specs.Refusals.{Verdict, search_verdict}
 use Rattle.order.proofs.Dueling.{duels-and-survivors}
 use Rattle.order.proofs.Whole.{demands_hold}
-use Rattle.sizes.specs.declared.answers.Fitting.TheVariants.{Fit, Refused as Unfit}
-use Rattle.search.specs.declared.answers.Searched.{Searched}
-use Rattle.search.specs.declared.answers.Searched.TheVariants.{Done, Refused as NotSearched}
-use Rattle.sizes.specs.Answers.{fitting_by}
+use Rattle.order.specs.Answers.{answer_by}
+use Rattle.order.proofs.Answered.{ok_accepted, err_refused}
 use Rattle.search.specs.Inside.Asked.{Searchable, SearchedOf}
 use Rattle.search.specs.SearchPromise.{SearchPromise}
-use Rattle.sizes.proofs.Verdicts.{fit_accepted, unfit_why, pattern_passed, stitches_passed, tables_passed, room_passed}
+use Rattle.sizes.proofs.Verdicts.{pattern_passed, stitches_passed, tables_passed, room_passed}
 use Rattle.tables.proofs.ForeignEntries.{accepted-own}
 use Rattle.lists.proofs.FilledUp.{filled-over}
 use Rattle.search.proofs.WrittenOut.{positions-few}
 
 -- ---- what an accepted search has
 
-pub search_ready : (P : List ℤ) (low high wi wj : List ℕ) (T : List ℤ) (s p : ℕ) {windows : ℕ} → Fit windows ≡ fitting_by (search_verdict P low high wi wj T s p) (windows_of (length P) (length T))
+pub search_ready : (P : List ℤ) (low high wi wj : List ℕ) (T : List ℤ) (s p : ℕ) {windows : ℕ} → Ok windows ≡ answer_by (search_verdict P low high wi wj T s p) (windows_of (length P) (length T))
     → Searchable P low high wi wj T windows s p
 unfolding search_verdict
 search_ready P low high wi wj T s p f =
-    let v = fit_accepted (search_verdict P low high wi wj T s p) (windows_of (length P) (length T)) f in
+    let v = ok_accepted (search_verdict P low high wi wj T s p) (windows_of (length P) (length T)) f in
     let a = pattern_passed (length P) _ v.0 in
     let l = stitches_passed P _ a.2 in
     let b = tables_passed (length P) (length low) (length high) (length wi) (length wj) _ l.1 in
@@ -61,9 +60,9 @@ module _ (P : List ℤ) (low high wi wj : List ℕ) (T : List ℤ) (kept listed 
   abbrev verdict : Verdict
   verdict = search_verdict P low high wi wj T (length kept) (length listed)
 
-  pub search_refused : {why : Refusal} → Unfit why ≡ fitting_by verdict (windows_of (length P) (length T)) → SearchPromise P low high wi wj T kept listed (NotSearched why) kept listed
+  pub search_refused : {why : Refusal} → Err why ≡ answer_by verdict (windows_of (length P) (length T)) → SearchPromise P low high wi wj T kept listed (Err why) kept listed
   search_refused e =
-      let w = unfit_why verdict (windows_of (length P) (length T)) e in
+      let w = err_refused verdict (windows_of (length P) (length T)) e in
       record {
         number = rw w refl;
         place = rw w refl;
@@ -73,20 +72,20 @@ module _ (P : List ℤ) (low high wi wj : List ℕ) (T : List ℤ) (kept listed 
         demands = λ c d. absurd (let z : ◌≡◌ {A = ℕ} 0 1 = cc in omega arith);
       }
 
-  pub search_done : {kept' listed' : List ℕ} {c : Counts} {windows : ℕ} → Fit windows ≡ fitting_by verdict (windows_of (length P) (length T)) → SearchedOf P T kept listed kept' listed' c → SearchPromise P low high wi wj T kept listed (Done c) kept' listed'
+  pub search_done : {kept' listed' : List ℕ} {c : Counts} {windows : ℕ} → Ok windows ≡ answer_by verdict (windows_of (length P) (length T)) → SearchedOf P T kept listed kept' listed' c → SearchPromise P low high wi wj T kept listed (Ok c) kept' listed'
   unfolding counts_of
   search_done {kept'} {listed'} {c} e s =
-      let w = (fit_accepted verdict (windows_of (length P) (length T)) e).0 in
+      let w = (ok_accepted verdict (windows_of (length P) (length T)) e).0 in
       record {
         number = rw w refl;
         place = rw w refl;
-        answer = rw w (ap Done s.counts);
+        answer = rw w (ap Ok s.counts);
         survivors_after = rw w s.survivors_written;
         positions_after = rw w s.positions_written;
         demands = λ d g. answered d (sym (same d g) ∙ s.counts);
       }
     where
-      same : (d : Counts) → Done c ≡ Done d → c ≡ d
+      same : (d : Counts) → ◌≡◌ {A = Result Counts Refusal} (Ok c) (Ok d) → c ≡ d
       same d g = cc
 
       few : length (survivors P T) ≤ windows_of (length P) (length T)
@@ -107,7 +106,7 @@ module _ (P : List ℤ) (low high wi wj : List ℕ) (T : List ℤ) (kept listed 
           listed-are = front (positions P T) listed (windows_of (length P) (length T)) (positions-few P T) s.positions_written
 
   -- no second answer, and no other content of a buffer
-  pub search_only_answer : {r s : Searched} {kept₁ listed₁ kept₂ listed₂ : List ℕ}
+  pub search_only_answer : {r s : Result Counts Refusal} {kept₁ listed₁ kept₂ listed₂ : List ℕ}
       → SearchPromise P low high wi wj T kept listed r kept₁ listed₁ → SearchPromise P low high wi wj T kept listed s kept₂ listed₂
       → (r ≡ s) × (kept₁ ≡ kept₂) × (listed₁ ≡ listed₂)
   search_only_answer p q =

@@ -12,7 +12,7 @@ use lib.Seq.{get_or-drop, take_all}
 use lib.Signed.{le_z}
 use lib.Dec.{leb}
 use borrow.Author.Tests.{eq-eqb, leb-true, leb-false}
-use Rattle.order.specs.declared.relation.Relation.{Relation}
+use Rattle.std.specs.declared.cmp.Ordering.{Ordering as Comparison}
 use Rattle.order.specs.declared.steps.Tested.TheVariants.{Passed, Failed}
 use Rattle.order.specs.Sizes.{Spot, none, place, as_place, at, entry, no_place}
 use Rattle.order.specs.Relations.{rel}
@@ -113,7 +113,7 @@ module _ (P v : List ℤ) (i : ℕ) where
   by_spots false true f = refl
   by_spots false false f = clash (f refl) refl
 
-  as_step : {way : Relation} → rel (at P (suc i)) (at P i) ≡ way → cond (matches P v (suc i) i) (Passed 1) (Failed 1 (as_place i)) ≡ step_test way v (suc i)
+  as_step : {way : Comparison} → rel (at P (suc i)) (at P i) ≡ way → cond (matches P v (suc i) i) (Passed 1) (Failed 1 (as_place i)) ≡ step_test way v (suc i)
   unfolding matches
   as_step e = let same : suc i - 1 ≡ i = omega arith in rw (e, same) refl
 
@@ -165,5 +165,5 @@ no_witness {P} {wi} own h e = go (witness_j_of P 1) refl
         absurd (omega arith)
 
 -- a single sample has no steps
-pub single_steady : (P : List ℤ) (way : Relation) → 0 < length P → length P ≤ 1 → Steady P way
+pub single_steady : (P : List ℤ) (way : Comparison) → 0 < length P → length P ≤ 1 → Steady P way
 single_steady P way h k = record { some = h; steps = λ v j a b. absurd (omega arith) }

@@ -6,9 +6,10 @@ use mathlib.Core.List.{List, [], ◌∷◌, Memᴰ}
 use mathlib.Core.Bool.{Bool, true, false, cond}
 use native.Mathlib.Omega.{arith}
 use native.Mathlib.Numerals.{add-one}
+use Rattle.std.specs.Prelude.{Result, Ok}
 use lib.IntN.{ℤ, pos}
 use lib.ListN.{length, get_or, take, drop, set, length-append, length-drop, drop_of_length-le}
-use lib.Seq.{drop-cons, get_or-take, length-take-le, take-append_seam, drop-append-add, drop-drop}
+use lib.Seq.{drop-cons, get_or-take, take-length, length-take-le, take-append_seam, drop-append-add, drop-drop}
 use Rattle.order.specs.declared.kinds.Place.{Place}
 use Rattle.order.specs.declared.steps.Tested.{Tested}
 use Rattle.order.specs.declared.steps.Tested.TheVariants.{Passed, Failed}
@@ -24,16 +25,14 @@ use Rattle.order.specs.Written.{over, after_verdict}
 use Rattle.order.proofs.Lists.{windows_of_as}
 use Rattle.order.proofs.SweepLaws.{sweep_fails, sweep_lists_same}
 use borrow.Author.Tests.{le-ltb}
-use native.Mathlib.Nat.{sub-zero}
 use Rattle.order.proofs.PlaceTests.{test_cost, test_depends}
 use Rattle.order.proofs.TestByEntries.{test_by_own}
 use Rattle.tables.specs.Inside.Asked.{OwnNeighbours}
 use Rattle.order.proofs.Dueling.{survivors-below, duels-and-survivors}
 use Rattle.search.specs.Inside.Asked.{Kept, Sweeps}
 use Rattle.sweep.specs.declared.answers.Swept.{Swept as Spent}
-use Rattle.sweep.specs.declared.answers.Sweep.{Sweep}
-use Rattle.sweep.specs.declared.answers.Sweep.TheVariants.{Done as WasSwept, Refused as NotSwept}
-use Rattle.sweep.specs.Sweeps.{places_of, entry_tests, inside_part, swept_of, list_verdict, sweep_by, spent_of, SweepPromise}
+use Rattle.order.specs.Answers.{answer_by}
+use Rattle.sweep.specs.Sweeps.{places_of, entry_tests, inside_part, swept_of, list_verdict, spent_of, SweepPromise}
 use Rattle.sweep.proofs.Testing.{Cheap, Sweeping as TestedTo, begin_at as tests-begin, passed_on as test-passed, ended_there as test-failed, came_through as tests-passed}
 use Rattle.sweep.proofs.Listing.{none_swept as no-window-swept, from_here as seen-from-here, from_there as seen-from-there, rest_as, next_swept as next-window-swept, swept_as as window-swept-as}
 use Rattle.sweep.proofs.Same.{all_inside, all_same}
@@ -186,28 +185,28 @@ survivors_in P T x h =
 
 -- is the rules'
 module _ {P : List ℤ} {low high : List ℕ} (T : List ℤ) (own : OwnNeighbours P low high) where
-  places : places_of (take (length P - 0) low) (take (length P - 0) high) ≡ length P
+  places : places_of (take (length P) low) (take (length P) high) ≡ length P
   places =
       let l = own.low_room in
       let h = own.high_room in
-      let a = length-take-le (length P - 0) low (omega arith) in
-      let b = length-take-le (length P - 0) high (omega arith) in
+      let a = length-take-le (length P) low (omega arith) in
+      let b = length-take-le (length P) high (omega arith) in
       omega arith
 
-  entry-own : (x : ℕ) → x + length P ≤ length T → (j : ℕ) → j < length P → entry_tests (take (length P - 0) low) (take (length P - 0) high) T x j ≡ tests_of P T x j
+  entry-own : (x : ℕ) → x + length P ≤ length T → (j : ℕ) → j < length P → entry_tests (take (length P) low) (take (length P) high) T x j ≡ tests_of P T x j
   unfolding entry_tests tests_of
   entry-own x h j k =
       let size : x + length P - x ≡ length P = omega arith in
-      ap (λ n. test_by (take n (drop x T)) (get_or (take (length P - 0) low) j 0) (get_or (take (length P - 0) high) j 0) j) (places ∙ sym size) ∙
-      ap₂ (λ l u. test_by (take (x + length P - x) (drop x T)) l u j) (get_or-take (length P - 0) low j 0 (omega arith)) (get_or-take (length P - 0) high j 0 (omega arith)) ∙
+      ap (λ n. test_by (take n (drop x T)) (get_or (take (length P) low) j 0) (get_or (take (length P) high) j 0) j) (places ∙ sym size) ∙
+      ap₂ (λ l u. test_by (take (x + length P - x) (drop x T)) l u j) (get_or-take (length P) low j 0 (omega arith)) (get_or-take (length P) high j 0 (omega arith)) ∙
       own_test T x j own h k
 
-  own-swept : swept_of (take (length P - 0) low) (take (length P - 0) high) T (survivors P T) ≡ swept_by cost P T
+  own-swept : swept_of (take (length P) low) (take (length P) high) T (survivors P T) ≡ swept_by cost P T
   unfolding swept_of swept_by
   own-swept =
-      ap (λ n. sweep_all_lem cost (entry_tests (take (length P - 0) low) (take (length P - 0) high) T) n (inside_part n (length T) (survivors P T)) (swept 0 0 [])) places ∙
-      ap (λ xs. sweep_all_lem cost (entry_tests (take (length P - 0) low) (take (length P - 0) high) T) (length P) xs (swept 0 0 [])) (all_inside (length P) (length T) (survivors P T) (survivors_in P T)) ∙
-      all_same (entry_tests (take (length P - 0) low) (take (length P - 0) high) T) (tests_of P T) (length P) (survivors P T) (λ x h. entry-own x (survivors_in P T x h)) (swept 0 0 [])
+      ap (λ n. sweep_all_lem cost (entry_tests (take (length P) low) (take (length P) high) T) n (inside_part n (length T) (survivors P T)) (swept 0 0 [])) places ∙
+      ap (λ xs. sweep_all_lem cost (entry_tests (take (length P) low) (take (length P) high) T) (length P) xs (swept 0 0 [])) (all_inside (length P) (length T) (survivors P T) (survivors_in P T)) ∙
+      all_same (entry_tests (take (length P) low) (take (length P) high) T) (tests_of P T) (length P) (survivors P T) (λ x h. entry-own x (survivors_in P T x h)) (swept 0 0 [])
 
 -- the listed are no more than the survivors
 listed-few : (P T : List ℤ) → length (positions P T) ≤ length (survivors P T)
@@ -216,57 +215,49 @@ listed-few P T =
     let e = ap length (sweep_lists_same P T) in
     omega arith
 
-module _ {P : List ℤ} {low high : List ℕ} {T : List ℤ} {buffer : List ℕ} {kept : ℕ} {before : List ℕ} (q : Sweeps P low high T buffer kept before) where
-  held : take (kept - 0) buffer ≡ survivors P T
-  held = ap (λ n. take n buffer) (sub-zero kept) ∙ q.rows.held
+module _ {P : List ℤ} {low high : List ℕ} {T : List ℤ} {buffer before : List ℕ} (q : Sweeps P low high T buffer (length buffer) before) where
+  held : buffer ≡ survivors P T
+  held = sym (take-length buffer) ∙ q.rows.held
 
-  long : length (take (kept - 0) buffer) ≡ kept
-  long = ap length held ∙ sym (rows-number q.rows)
-
-  room : list_verdict (take (kept - 0) buffer) before ≡ accepted
+  room : list_verdict buffer before ≡ accepted
   unfolding list_verdict
-  room = let r = q.room in let l = long in rw (le-ltb (length before) (length (take (kept - 0) buffer)) (omega arith)) refl
+  room = rw (le-ltb (length before) (length buffer) q.room) refl
 
-  all : swept_of (take (length P - 0) low) (take (length P - 0) high) T (take (kept - 0) buffer) ≡ swept_by cost P T
-  all = ap (swept_of (take (length P - 0) low) (take (length P - 0) high) T) held ∙ own-swept T q.own
+  all : swept_of (take (length P) low) (take (length P) high) T buffer ≡ swept_by cost P T
+  all = ap (swept_of (take (length P) low) (take (length P) high) T) held ∙ own-swept T q.own
 
-  -- it is not refused
-  pub mixed_refused : {why : Refusal} {r : Sweep} {after : List ℕ} → r ≡ NotSwept why → SweepPromise (take (length P - 0) low) (take (length P - 0) high) T (take (kept - 0) buffer) before r after → ⊥
-  mixed_refused {why} g p =
-      let z = clashing (sym g ∙ p.answer ∙ ap (λ v. sweep_by v (spent_of (swept_of (take (length P - 0) low) (take (length P - 0) high) T (take (kept - 0) buffer)))) room) in omega arith
-    where
-      clashing : {s : Spent} → NotSwept why ≡ WasSwept s → ◌≡◌ {A = ℕ} 0 1
-      clashing e = cc
+  -- it is never refused
+  pub mixed_answer : {r : Result Spent Refusal} {after : List ℕ} → SweepPromise (take (length P) low) (take (length P) high) T buffer before r after → r ≡ Ok (spent_of (swept_by cost P T))
+  mixed_answer p = p.answer ∙ ap₂ (λ v t. answer_by v (spent_of t)) room all
 
   -- and leaves the rules' sweep
-  pub mixed_swept : {s : Spent} {r : Sweep} {after : List ℕ} → r ≡ WasSwept s → SweepPromise (take (length P - 0) low) (take (length P - 0) high) T (take (kept - 0) buffer) before r after
-      → SweepOf P T kept before after s.spent 0 s.found
+  pub mixed_swept : {s : Spent} {r : Result Spent Refusal} {after : List ℕ} → r ≡ Ok s → SweepPromise (take (length P) low) (take (length P) high) T buffer before r after
+      → SweepOf P T (length buffer) before after s.spent 0 s.found
   unfolding sweep_cost positions
   mixed_swept {s} {r} {after} g p =
       let few = listed-few P T in
       let number = rows-number q.rows in
       let fits = q.room in
       let b = p.bound s g in
-      let l = long in
       record {
         cost_is = ap (λ (t : Spent). t.spent) told;
         bound = omega arith;
         listed = ap₂ take found_is written ∙ take-append_seam (positions P T) (drop (length (positions P T)) before);
         few = let f = found_is in omega arith;
         beyond =
-            let more : kept ≡ length (positions P T) + (kept - length (positions P T)) = omega arith in
-            let less : kept - length (positions P T) + length (positions P T) ≡ kept = omega arith in
-            let back : length (positions P T) + (kept - length (positions P T)) ≡ kept = omega arith in
-            ap (drop kept) written ∙ ap (λ n. drop n (over (positions P T) before)) more ∙ drop-append-add (positions P T) (drop (length (positions P T)) before) (kept - length (positions P T)) ∙
-            drop-drop (kept - length (positions P T)) (length (positions P T)) before ∙ ap (λ n. drop n before) back;
+            let more : length buffer ≡ length (positions P T) + (length buffer - length (positions P T)) = omega arith in
+            let less : length buffer - length (positions P T) + length (positions P T) ≡ length buffer = omega arith in
+            let back : length (positions P T) + (length buffer - length (positions P T)) ≡ length buffer = omega arith in
+            ap (drop (length buffer)) written ∙ ap (λ n. drop n (over (positions P T) before)) more ∙ drop-append-add (positions P T) (drop (length (positions P T)) before) (length buffer - length (positions P T)) ∙
+            drop-drop (length buffer - length (positions P T)) (length (positions P T)) before ∙ ap (λ n. drop n before) back;
         same_length = ap length written ∙ length-append (positions P T) (drop (length (positions P T)) before) ∙ (let d = length-drop (length (positions P T)) before in omega arith);
       }
     where
-      same : {t : Spent} → WasSwept s ≡ WasSwept t → s ≡ t
+      same : {t : Spent} → ◌≡◌ {A = Result Spent Refusal} (Ok s) (Ok t) → s ≡ t
       same e = cc
 
       told : s ≡ spent_of (swept_by cost P T)
-      told = same (sym g ∙ p.answer ∙ ap₂ (λ v t. sweep_by v (spent_of t)) room all)
+      told = same (sym g ∙ mixed_answer p)
 
       found_is : s.found ≡ length (positions P T)
       found_is = ap (λ (t : Spent). t.found) told

@@ -7,8 +7,8 @@ use mathlib.Core.List.{List, ◌++◌}
 use native.Mathlib.Omega.{arith}
 use lib.IntN.{ℤ}
 use lib.ListN.{length, take, drop, replicate, length-append}
-use lib.Seq.{take_at, length-take-le, drop-drop}
-use Rattle.order.specs.Sizes.{unused, windows_of}
+use lib.Seq.{take_at, take-length, length-take-le, drop-drop}
+use Rattle.order.specs.Sizes.{unused, trace_limit, windows_of}
 use Rattle.order.specs.Duels.{survivors}
 use Rattle.order.specs.Sweeping.{sweep_cost, positions}
 use Rattle.order.specs.Written.{counts_of, over, filled}
@@ -17,7 +17,7 @@ use Rattle.order.proofs.SweepLaws.{sweep_fails, sweep_lists_same}
 use Rattle.lists.proofs.FilledUp.{filled-over, written_out}
 use Rattle.duels.specs.declared.answers.Duelled.{Duelled}
 use Rattle.search.specs.Inside.Sweeps.{SweepOf}
-use Rattle.search.specs.Inside.Asked.{SurvivorsOf, SearchedOf}
+use Rattle.search.specs.Inside.Asked.{Kept, SurvivorsOf, SearchedOf}
 
 -- ---- the sweep
 
@@ -62,6 +62,10 @@ survivors-held {P} {T} {before} {after} s h =
     let w = s.written ∙ filled-over (survivors P T) before (windows_of (length P) (length T)) few in
     let long : length (survivors P T) ≤ length after = rw (w, length-append) (omega arith) in
     (ap₂ take n w ∙ take_at (survivors P T) _ (length (survivors P T)) refl, (omega arith), (omega arith))
+
+-- the survivors as a list of their own
+pub kept_rows : {P T : List ℤ} (buffer : List ℕ) (kept : ℕ) → length T ≤ trace_limit → take kept buffer ≡ survivors P T → Kept P T (take kept buffer) (length (take kept buffer))
+kept_rows buffer kept t h = record { trace = t; held = take-length (take kept buffer) ∙ h; kept_long = omega arith }
 
 pub searched : {P T : List ℤ} {kept listed kept' listed' : List ℕ} {windows spent found : ℕ} {d : Duelled} → windows ≡ windows_of (length P) (length T)
     → SurvivorsOf P T kept kept' d → PositionsOf P T listed listed' spent found

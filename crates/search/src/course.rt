@@ -7,25 +7,20 @@
 ghost use Rattle.search.specs.Inside.Asked.{OwnFirst};
 ghost use Rattle.search.specs.Inside.Courses.{Chosen};
 
-use order::{NONE, Relation, compare};
+use order::{NONE, compare};
+use std::cmp::Ordering;
 
-// Steady, with how each sample compares with the one before it, or mixed.
-#[derive(Clone, Copy)]
-pub(crate) enum Course {
-    Steady(Relation),
-    Mixed,
-}
-
-// The way of a pattern. One of a single sample is steady whatever is said of its steps: it has none.
-pub(crate) fn course_of(pattern: &[i32], witness_i: &[u16]) -> Course
+// The way of a steady pattern, which is how each sample compares with the one before it, or none of a mixed one. A pattern of a single sample
+// is steady whatever is said of its steps: it has none.
+pub(crate) fn course_of(pattern: &[i32], witness_i: &[u16]) -> Option<Ordering>
     requires { OwnFirst pattern.now witness_i.now }
     ensures { Chosen pattern.now result }
 {
     if pattern.len() <= 1 {
-        return Course::Steady(Relation::Equal);
+        return Some(Ordering::Equal);
     }
     if witness_i[1] == NONE {
-        return Course::Steady(compare(pattern[1], pattern[0]));
+        return Some(compare(pattern[1], pattern[0]));
     }
-    Course::Mixed
+    None
 }

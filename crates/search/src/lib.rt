@@ -5,11 +5,9 @@
 
 #![tactic(auto)]
 
-mod answers;
 mod course;
 mod mixed;
 mod searching;
 mod steady;
 
-pub use answers::Searched;
 pub use searching::search;

@@ -8,20 +8,19 @@
 ghost use Rattle.std.specs.Prelude.{◌≡◌, length};
 ghost use Rattle.order.specs.Sizes.{windows_of};
 ghost use Rattle.order.specs.Refusals.{search_verdict};
-ghost use Rattle.sizes.specs.Answers.{fitting_by};
+ghost use Rattle.order.specs.Answers.{answer_by};
 ghost use Rattle.search.specs.Inside.Asked.{Dueling, SurvivorsOf, Sweeps, Searchable, SearchedOf};
 ghost use Rattle.search.specs.Inside.Courses.{Chosen};
 ghost use Rattle.search.specs.Inside.Sweeps.{SweepOf};
 ghost use Rattle.search.specs.SearchPromise.{SearchPromise};
 
-use crate::answers::Searched;
-use crate::course::{Course, course_of};
-use crate::mixed::{Swept, sweep_mixed};
-use crate::steady::sweep_steady;
-use duels::{Duelled, Duels, duel_windows};
+use crate::course::course_of;
+use crate::mixed::sweep_mixed;
+use crate::steady::{Effort, Survivors};
+use duels::{Duelled, duel_windows};
 use lists::fill_unused;
-use order::Counts;
-use sizes::{Checked, Fitting};
+use order::{Counts, Refusal};
+use std::cmp::Ordering;
 
 // All the conditions of a search, in their order; where none holds, the number of windows. Where there is room, the check of the tables
 // tries all that is left, and the pattern is looked at once.
@@ -34,18 +33,12 @@ fn check_search(
     trace: &[i32],
     survivors: usize,
     positions: usize,
-) -> Fitting
-    ensures { result ≡ fitting_by (search_verdict pattern.now low.now high.now witness_i.now witness_j.now trace.now survivors positions) (windows_of (length pattern.now) (length trace.now)) }
+) -> Result<usize, Refusal>
+    ensures { result ≡ answer_by (search_verdict pattern.now low.now high.now witness_i.now witness_j.now trace.now survivors positions) (windows_of (length pattern.now) (length trace.now)) }
 {
-    match sizes::for_room(pattern.len(), trace.len(), survivors, positions) {
-        Fitting::Fit(windows) => {
-            match tables::check_tables(pattern, low, high, witness_i, witness_j) {
-                Checked::Refused(why) => Fitting::Refused(why),
-                Checked::Fine => Fitting::Fit(windows),
-            }
-        }
+    let Ok(windows) = sizes::for_room(pattern.len(), trace.len(), survivors, positions) else {
         // what comes before the room in their order may refuse as well
-        Fitting::Refused(_) => sizes::for_search(
+        return sizes::for_search(
             pattern,
             low.len(),
             high.len(),
@@ -54,8 +47,10 @@ fn check_search(
             trace.len(),
             survivors,
             positions,
-        ),
-    }
+        );
+    };
+    tables::check_tables(pattern, low, high, witness_i, witness_j)?;
+    Ok(windows)
 }
 
 // The duels, by the pattern's own tables.
@@ -69,39 +64,37 @@ fn keep_windows(
     requires { Dueling pattern.now witness_i.now witness_j.now trace.now survivors.old }
     ensures { SurvivorsOf pattern.now trace.now survivors.old survivors.new result }
 {
-    match duel_windows(pattern, witness_i, witness_j, trace, survivors) {
-        Duels::Done(duelled) => duelled,
-        // never, since the pattern, lengths and entries were looked at
-        Duels::Refused(_) => Duelled {
-            kept: 0,
-            fought: 0,
-            struck: 0,
-        },
-        Duels::Untold(_) => Duelled {
-            kept: 0,
-            fought: 0,
-            struck: 0,
-        },
-    }
+    // the pattern, lengths and entries were looked at
+    duel_windows(pattern, witness_i, witness_j, trace, survivors).unwrap()
 }
 
-// The sweep, the pattern's way.
+// The sweep, the pattern's way: what it leaves, and the comparisons that it made besides those that the rules count.
 fn sweep_windows(
     pattern: &[i32],
     low: &[u16],
     high: &[u16],
     trace: &[i32],
     survivors: &[u32],
-    kept: usize,
-    course: Course,
+    course: Option<Ordering>,
     positions: &mut [u32],
-) -> Swept
-    requires { Sweeps pattern.now low.now high.now trace.now survivors.now kept positions.old × Chosen pattern.now course }
-    ensures { SweepOf pattern.now trace.now kept positions.old positions.new result.spent result.wasted result.found }
+) -> Effort
+    requires { Sweeps pattern.now low.now high.now trace.now survivors.now (length survivors.now) positions.old × Chosen pattern.now course }
+    ensures { SweepOf pattern.now trace.now (length survivors.now) positions.old positions.new result.swept.spent result.wasted result.swept.found }
 {
     match course {
-        Course::Steady(way) => sweep_steady(pattern, trace, way, survivors, kept, positions),
-        Course::Mixed => sweep_mixed(pattern, low, high, trace, survivors, kept, positions),
+        Some(way) => {
+            let steady = Survivors {
+                pattern,
+                trace,
+                way,
+                windows: survivors,
+            };
+            steady.sweep_steady(positions)
+        }
+        None => Effort {
+            swept: sweep_mixed(pattern, low, high, trace, survivors, positions),
+            wasted: 0,
+        },
     }
 }
 
@@ -124,15 +117,22 @@ fn run(
     let course = course_of(pattern, witness_i); // after the duels, whose loop would keep registers for it
     let kept = duelled.kept;
     let swept = sweep_windows(
-        pattern, low, high, trace, survivors, kept, course, positions,
-    );
+        pattern,
+        low,
+        high,
+        trace,
+        &survivors[..kept],
+        course,
+        positions,
+    )
+    .swept;
     let found = swept.found;
     fill_unused(&mut positions[found..windows]);
     Counts {
         windows: windows as u32,
         duels: duelled.fought,
         survivors: kept as u32,
-        sweep: swept.spent,
+        sweep: swept.spent as u32,
         found: found as u32,
         struck: duelled.struck,
     }
@@ -148,10 +148,10 @@ pub fn search(
     trace: &[i32],
     survivors: &mut [u32],
     positions: &mut [u32],
-) -> Searched
+) -> Result<Counts, Refusal>
     ensures { SearchPromise pattern.now low.now high.now witness_i.now witness_j.now trace.now survivors.old positions.old result survivors.new positions.new }
 {
-    match check_search(
+    let windows = check_search(
         pattern,
         low,
         high,
@@ -160,10 +160,8 @@ pub fn search(
         trace,
         survivors.len(),
         positions.len(),
-    ) {
-        Fitting::Refused(why) => Searched::Refused(why),
-        Fitting::Fit(windows) => Searched::Done(run(
-            pattern, low, high, witness_i, witness_j, trace, windows, survivors, positions,
-        )),
-    }
+    )?;
+    Ok(run(
+        pattern, low, high, witness_i, witness_j, trace, windows, survivors, positions,
+    ))
 }

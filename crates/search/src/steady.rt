@@ -16,10 +16,10 @@ ghost use Rattle.search.specs.Inside.Courses.{Steady};
 ghost use Rattle.search.specs.Inside.Runs.{block, GoesOn, LookOf, listed_run};
 ghost use Rattle.search.specs.Inside.Sweeps.{Climbed, SweptTo, TurnOf, TurnedAll, SweepOf};
 
-use crate::mixed::Swept;
 use lists::list_one;
-use order::{Relation, Window};
-use words::{larger, smaller, wide32};
+use order::Window;
+use std::cmp::Ordering;
+use sweep::Swept;
 
 // The windows of a block.
 const BLOCK: usize = 64;
@@ -29,18 +29,18 @@ const BLOCK: usize = 64;
 const MANY: usize = 256;
 
 // Whether a compares with b as told.
-fn goes(a: i32, b: i32, way: Relation) -> bool
+fn goes(a: i32, b: i32, way: Ordering) -> bool
     ensures { result ≡ alike (rel a b) way }
 {
     match way {
-        Relation::Less => a < b,
-        Relation::Equal => a == b,
-        Relation::Greater => b < a,
+        Ordering::Less => a < b,
+        Ordering::Equal => a == b,
+        Ordering::Greater => b < a,
     }
 }
 
 // Whether sample e compares with the one before it as the pattern's do.
-fn goes_at(trace: &[i32], e: usize, way: Relation) -> bool
+fn goes_at(trace: &[i32], e: usize, way: Ordering) -> bool
     requires { (0 < e) × (e < length trace.now) }
     ensures { result ≡ told trace.now e (e - 1) way }
 {
@@ -48,7 +48,7 @@ fn goes_at(trace: &[i32], e: usize, way: Relation) -> bool
 }
 
 // Whether each of a block's samples after sample e does.
-fn goes_on(trace: &[i32], e: usize, way: Relation) -> bool
+fn goes_on(trace: &[i32], e: usize, way: Ordering) -> bool
     requires { (e + block < length trace.now) × (length trace.now ≤ trace_limit) }
     ensures { result ≡ true → GoesOn trace.now e block way }
 {
@@ -59,142 +59,44 @@ fn goes_on(trace: &[i32], e: usize, way: Relation) -> bool
     all
 }
 
+// The survivors of a steady pattern: their windows, in the trace that they lie in, and the way that the pattern goes.
+#[derive(Clone, Copy)]
+pub(crate) struct Survivors<'a> {
+    pub pattern: &'a [i32],
+    pub trace: &'a [i32],
+    pub way: Ordering,
+    pub windows: &'a [u32],
+}
+
+// What the sweep leaves, and the comparisons of looks that failed, which the rules do not count.
+#[derive(Clone, Copy)]
+pub(crate) struct Effort {
+    pub swept: Swept,
+    pub wasted: usize,
+}
+
 // Where the tests of one survivor end: E, the comparisons spent so far, and whether all its places passed.
 #[derive(Clone, Copy)]
 struct Reached {
     reach: usize,
-    spent: u32,
+    spent: usize,
     whole: bool,
-}
-
-// The tests of survivor x from the sample `from` on.
-fn climb(
-    pattern: &[i32],
-    trace: &[i32],
-    way: Relation,
-    x: Window,
-    from: usize,
-    before: u32,
-) -> Reached
-    requires { Steadily pattern.now trace.now way x.0 from before }
-    ensures { Climbed pattern.now trace.now x.0 from before result.reach result.spent result.whole }
-{
-    let start = x.0;
-    let stop = start + pattern.len();
-    let mut e = larger(from, start + 1); // place 0 is free
-    let mut spent = before;
-    while e < stop {
-        spent += 1;
-        if goes_at(trace, e, way) {
-            e += 1;
-        } else {
-            return Reached {
-                reach: e,
-                spent,
-                whole: false,
-            };
-        }
-    }
-    Reached {
-        reach: e,
-        spent,
-        whole: true,
-    }
 }
 
 // How far the sweep has come: E, the comparisons spent, and how many windows are listed.
 #[derive(Clone, Copy)]
 struct Progress {
     reach: usize,
-    spent: u32,
+    spent: usize,
     found: usize,
 }
 
-// The survivors from entry `first` of their buffer up to, and not at, entry `to`, one by one.
-fn steady_some(
-    pattern: &[i32],
-    trace: &[i32],
-    way: Relation,
-    survivors: &[u32],
-    kept: usize,
-    first: usize,
-    to: usize,
-    before: Progress,
-    positions: &mut [u32],
-) -> Progress
-    requires { SteadySweep pattern.now trace.now way survivors.now kept positions.old × (first ≤ to) × (to ≤ kept) × SweptTo pattern.now trace.now kept positions.old positions.old first before.reach before.spent before.found }
-    ensures { SweptTo pattern.now trace.now kept positions.old positions.new to result.reach result.spent result.found × (result.spent + (before.reach + first) ≤ before.spent + (result.reach + to)) }
-{
-    let mut reach = before.reach;
-    let mut spent = before.spent;
-    let mut found = before.found;
-    for k in first..to {
-        let x = survivors[k];
-        let start = wide32(x);
-        let end = climb(
-            pattern,
-            trace,
-            way,
-            Window(start),
-            larger(reach, start),
-            spent,
-        );
-        reach = end.reach;
-        spent = end.spent;
-        found = list_one(positions, found, x, end.whole);
-    }
-    Progress {
-        reach,
-        spent,
-        found,
-    }
-}
-
-// What a look ahead tells: whether there is a block all of whose windows pass, and the comparisons that the look made.
+// What a look ahead tells: whether there is a block all of whose windows pass, and the comparisons that the look made. Either way these
+// count: no `Option` of them.
 #[derive(Clone, Copy)]
 struct Look {
     whole: bool,
-    made: u32,
-}
-
-// Looks for a block from survivor k on, where the tests before it have come to the sample `reach`.
-fn look_ahead(
-    pattern: &[i32],
-    trace: &[i32],
-    way: Relation,
-    survivors: &[u32],
-    kept: usize,
-    k: usize,
-    reach: usize,
-) -> Look
-    requires { Steady pattern.now way × Kept pattern.now trace.now survivors.now kept × (k < kept) × (reach ≤ length trace.now) }
-    ensures { LookOf pattern.now trace.now survivors.now kept k reach result.whole result.made }
-{
-    let none = Look {
-        whole: false,
-        made: 0,
-    };
-    let x = wide32(survivors[k]);
-    let last = k + (BLOCK - 1);
-    if kept <= last {
-        return none;
-    }
-    if wide32(survivors[last]) != x + (BLOCK - 1) {
-        return none;
-    }
-    if reach + 1 != x + pattern.len() {
-        return none;
-    }
-    if pattern.len() == 1 {
-        return Look {
-            whole: true,
-            made: 0,
-        };
-    }
-    Look {
-        whole: goes_on(trace, reach - 1, way),
-        made: BLOCK as u32,
-    }
+    made: usize,
 }
 
 // Lists a block: its entries of the survivors, from entry k on, from entry `found` of the positions on.
@@ -212,81 +114,154 @@ fn list_block(survivors: &[u32], k: usize, positions: &mut [u32], found: usize)
 struct Turn {
     next: usize,
     end: Progress,
-    wasted: u32,
+    wasted: usize,
 }
 
-// One turn from survivor k on: a block where one passes, and otherwise some survivors one by one before the next look.
-fn steady_turn(
-    pattern: &[i32],
-    trace: &[i32],
-    way: Relation,
-    survivors: &[u32],
-    kept: usize,
-    k: usize,
-    before: Progress,
-    positions: &mut [u32],
-) -> Turn
-    requires { SteadySweep pattern.now trace.now way survivors.now kept positions.old × (k < kept) × SweptTo pattern.now trace.now kept positions.old positions.old k before.reach before.spent before.found }
-    ensures { TurnOf pattern.now trace.now survivors.now kept positions.old positions.new k before.reach before.spent result.next result.end.reach result.end.spent result.end.found result.wasted }
-{
-    let reach = before.reach;
-    let look = look_ahead(pattern, trace, way, survivors, kept, k, reach);
-    if look.whole {
-        let found = before.found;
-        list_block(survivors, k, positions, found);
-        return Turn {
-            next: k + BLOCK,
-            end: Progress {
-                reach: reach + BLOCK,
-                spent: before.spent + look.made,
-                found: found + BLOCK,
-            },
-            wasted: 0,
+impl<'a> Survivors<'a> {
+    // The tests of survivor x from the sample `from` on.
+    fn climb(self, x: Window, from: usize, before: usize) -> Reached
+        requires { Steadily self.pattern.now self.trace.now self.way x.0 from before }
+        ensures { Climbed self.entry.pattern.now self.entry.trace.now x.0 from before result.reach result.spent result.whole }
+    {
+        let start = x.0;
+        let stop = start + self.pattern.len();
+        let mut e = from.max(start + 1); // place 0 is free
+        let mut spent = before;
+        while e < stop {
+            spent += 1;
+            if goes_at(self.trace, e, self.way) {
+                e += 1;
+            } else {
+                return Reached {
+                    reach: e,
+                    spent,
+                    whole: false,
+                };
+            }
+        }
+        Reached {
+            reach: e,
+            spent,
+            whole: true,
+        }
+    }
+
+    // The survivors from entry `first` of their list up to, and not at, entry `to`, one by one.
+    fn steady_some(
+        self,
+        first: usize,
+        to: usize,
+        before: Progress,
+        positions: &mut [u32],
+    ) -> Progress
+        requires { SteadySweep self.pattern.now self.trace.now self.way self.windows.now (length self.windows.now) positions.old × (first ≤ to) × (to ≤ length self.windows.now) × SweptTo self.pattern.now self.trace.now (length self.windows.now) positions.old positions.old first before.reach before.spent before.found }
+        ensures { SweptTo self.entry.pattern.now self.entry.trace.now (length self.entry.windows.now) positions.old positions.new to result.reach result.spent result.found × (result.spent + (before.reach + first) ≤ before.spent + (result.reach + to)) }
+    {
+        let mut reach = before.reach;
+        let mut spent = before.spent;
+        let mut found = before.found;
+        for k in first..to {
+            let x = self.windows[k];
+            let start = x as usize;
+            let end = self.climb(Window(start), reach.max(start), spent);
+            reach = end.reach;
+            spent = end.spent;
+            found = list_one(positions, found, x, end.whole);
+        }
+        Progress {
+            reach,
+            spent,
+            found,
+        }
+    }
+
+    // Looks for a block from survivor k on, where the tests before it have come to the sample `reach`.
+    fn look_ahead(self, k: usize, reach: usize) -> Look
+        requires { Steady self.pattern.now self.way × Kept self.pattern.now self.trace.now self.windows.now (length self.windows.now) × (k < length self.windows.now) × (reach ≤ length self.trace.now) }
+        ensures { LookOf self.entry.pattern.now self.entry.trace.now self.entry.windows.now (length self.entry.windows.now) k reach result.whole result.made }
+    {
+        let none = Look {
+            whole: false,
+            made: 0,
         };
+        let x = self.windows[k] as usize;
+        let last = k + (BLOCK - 1);
+        if self.windows.len() <= last {
+            return none;
+        }
+        if self.windows[last] as usize != x + (BLOCK - 1) {
+            return none;
+        }
+        if reach + 1 != x + self.pattern.len() {
+            return none;
+        }
+        if self.pattern.len() == 1 {
+            return Look {
+                whole: true,
+                made: 0,
+            };
+        }
+        Look {
+            whole: goes_on(self.trace, reach - 1, self.way),
+            made: BLOCK,
+        }
     }
-    let next = smaller(kept, k + MANY);
-    let end = steady_some(
-        pattern, trace, way, survivors, kept, k, next, before, positions,
-    );
-    Turn {
-        next,
-        end,
-        wasted: look.made,
-    }
-}
 
-// All survivors, the first `kept` entries of their buffer: the first by itself, so that a block may follow it, then turn by turn.
-pub(crate) fn sweep_steady(
-    pattern: &[i32],
-    trace: &[i32],
-    way: Relation,
-    survivors: &[u32],
-    kept: usize,
-    positions: &mut [u32],
-) -> Swept
-    requires { SteadySweep pattern.now trace.now way survivors.now kept positions.old }
-    ensures { SweepOf pattern.now trace.now kept positions.old positions.new result.spent result.wasted result.found × TurnedAll pattern.now trace.now survivors.now kept result.spent result.wasted }
-{
-    let nothing = Progress {
-        reach: 0,
-        spent: 0,
-        found: 0,
-    };
-    let mut k = smaller(kept, 1);
-    let mut so_far = steady_some(
-        pattern, trace, way, survivors, kept, 0, k, nothing, positions,
-    );
-    let mut wasted: u32 = 0;
-    while k < kept {
-        let turn = steady_turn(pattern, trace, way, survivors, kept, k, so_far, positions);
-        let end = turn.end;
-        so_far = end;
-        k = turn.next;
-        wasted += turn.wasted;
+    // One turn from survivor k on: a block where one passes, and otherwise some survivors one by one before the next look.
+    fn steady_turn(self, k: usize, before: Progress, positions: &mut [u32]) -> Turn
+        requires { SteadySweep self.pattern.now self.trace.now self.way self.windows.now (length self.windows.now) positions.old × (k < length self.windows.now) × SweptTo self.pattern.now self.trace.now (length self.windows.now) positions.old positions.old k before.reach before.spent before.found }
+        ensures { TurnOf self.entry.pattern.now self.entry.trace.now self.entry.windows.now (length self.entry.windows.now) positions.old positions.new k before.reach before.spent result.next result.end.reach result.end.spent result.end.found result.wasted }
+    {
+        let reach = before.reach;
+        let look = self.look_ahead(k, reach);
+        if look.whole {
+            let found = before.found;
+            list_block(self.windows, k, positions, found);
+            return Turn {
+                next: k + BLOCK,
+                end: Progress {
+                    reach: reach + BLOCK,
+                    spent: before.spent + look.made,
+                    found: found + BLOCK,
+                },
+                wasted: 0,
+            };
+        }
+        let next = self.windows.len().min(k + MANY);
+        let end = self.steady_some(k, next, before, positions);
+        Turn {
+            next,
+            end,
+            wasted: look.made,
+        }
     }
-    Swept {
-        spent: so_far.spent,
-        wasted,
-        found: so_far.found,
+
+    // All survivors: the first by itself, so that a block may follow it, then turn by turn.
+    pub(crate) fn sweep_steady(self, positions: &mut [u32]) -> Effort
+        requires { SteadySweep self.pattern.now self.trace.now self.way self.windows.now (length self.windows.now) positions.old }
+        ensures { SweepOf self.entry.pattern.now self.entry.trace.now (length self.entry.windows.now) positions.old positions.new result.swept.spent result.wasted result.swept.found × TurnedAll self.entry.pattern.now self.entry.trace.now self.entry.windows.now (length self.entry.windows.now) result.swept.spent result.wasted }
+    {
+        let nothing = Progress {
+            reach: 0,
+            spent: 0,
+            found: 0,
+        };
+        let mut k = self.windows.len().min(1);
+        let mut so_far = self.steady_some(0, k, nothing, positions);
+        let mut wasted: usize = 0;
+        while k < self.windows.len() {
+            let turn = self.steady_turn(k, so_far, positions);
+            let end = turn.end;
+            so_far = end;
+            k = turn.next;
+            wasted += turn.wasted;
+        }
+        Effort {
+            swept: Swept {
+                spent: so_far.spent,
+                found: so_far.found,
+            },
+            wasted,
+        }
     }
 }

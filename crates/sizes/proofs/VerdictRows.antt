@@ -7,6 +7,7 @@ use mathlib.Core.Bool.{true, false, not}
 use lib.Dec.{ltb, eqb}
 use lib.IntN.{ℤ}
 use lib.ListN.{length}
+use Rattle.std.specs.Prelude.{Result, Ok, Err}
 use borrow.Author.Tests.{lt-ltb, le-ltb}
 use Rattle.order.specs.declared.refusal.Refusal.{Refusal}
 use Rattle.order.specs.declared.refusal.Refusal.TheVariants.{EmptyPattern, LongPattern, ShortTable, LongTrace, ShortSurvivors, ShortPositions, LostStitch}
@@ -14,14 +15,11 @@ use Rattle.order.specs.declared.refusal.Table.TheVariants.{Low, High, WitnessI, 
 use Rattle.order.specs.Sizes.{Spot, none, place, is_none, pattern_limit, trace_limit, windows_of}
 use Rattle.order.specs.Lost.{first_lost_lem, holds_lost_lem}
 use Rattle.order.specs.Refusals.{Verdict, accepted, refuse, refuse_at, pattern_verdict, stitches_verdict, witnesses_verdict, tables_verdict, prepare_verdict, room_verdict}
-use Rattle.sizes.specs.declared.answers.Checked.{Checked}
-use Rattle.sizes.specs.declared.answers.Checked.TheVariants.{Fine, Refused}
-use Rattle.sizes.specs.declared.answers.Fitting.TheVariants.{Fit, Refused as Unfit}
-use Rattle.sizes.specs.Answers.{checked_by, fitting_by}
+use Rattle.order.specs.Answers.{answer_by}
+use Rattle.order.proofs.Answered.{done, unmet, ok_accepted, err_refused}
 use Rattle.order.proofs.Tests.{clash}
 use Rattle.order.proofs.Rows.{Passing, Refusing, Row, refuse_row, refuse_at_row, then_row, first_row, row_passes, row_refuses}
 use Rattle.stitches.specs.Ends.{or_end}
-use Rattle.sizes.proofs.Verdicts.{fine_accepted, refused_why}
 
 -- ---- the rows of a pattern and its tables
 
@@ -35,22 +33,22 @@ stitches_row P = refuse_at_row (first_lost_lem P) LostStitch
 
 -- what follows a row: itself where the row passes, nothing where it refuses
 module _ (f : Verdict → Verdict) (row : Row f) where
-  through : Fine ≡ checked_by (f accepted) → Passing f
-  through e = row_passes f row (fine_accepted (f accepted) e)
+  through : done ≡ answer_by (f accepted) tt → Passing f
+  through e = row_passes f row ((ok_accepted (f accepted) tt e).0)
 
-  stays : {c : Checked} {why : Refusal} → c ≡ checked_by (f accepted) → c ≡ Refused why → (next : Verdict) → c ≡ checked_by (f next)
-  stays {why = why} e g next = g ∙ ap checked_by (sym (row_refuses f row (refused_why (f accepted) why (sym g ∙ e)) next))
+  stays : {c : Result (Unit {0}) Refusal} {why : Refusal} → c ≡ answer_by (f accepted) tt → c ≡ Err why → (next : Verdict) → c ≡ answer_by (f next) tt
+  stays {why = why} e g next = g ∙ ap (λ v. answer_by v tt) (sym (row_refuses f row (err_refused (f accepted) tt (sym g ∙ e)) next))
 
-pub pattern_through : (m : ℕ) → Fine ≡ checked_by (pattern_verdict m accepted) → Passing (pattern_verdict m)
+pub pattern_through : (m : ℕ) → done ≡ answer_by (pattern_verdict m accepted) tt → Passing (pattern_verdict m)
 pattern_through m = through (pattern_verdict m) (pattern_row m)
 
-pub pattern_stays : (m : ℕ) {c : Checked} {why : Refusal} → c ≡ checked_by (pattern_verdict m accepted) → c ≡ Refused why → (next : Verdict) → c ≡ checked_by (pattern_verdict m next)
+pub pattern_stays : (m : ℕ) {c : Result (Unit {0}) Refusal} {why : Refusal} → c ≡ answer_by (pattern_verdict m accepted) tt → c ≡ Err why → (next : Verdict) → c ≡ answer_by (pattern_verdict m next) tt
 pattern_stays m = stays (pattern_verdict m) (pattern_row m)
 
-pub stitches_through : (P : List ℤ) → Fine ≡ checked_by (stitches_verdict P accepted) → Passing (stitches_verdict P)
+pub stitches_through : (P : List ℤ) → done ≡ answer_by (stitches_verdict P accepted) tt → Passing (stitches_verdict P)
 stitches_through P = through (stitches_verdict P) (stitches_row P)
 
-pub stitches_stay : (P : List ℤ) {c : Checked} {why : Refusal} → c ≡ checked_by (stitches_verdict P accepted) → c ≡ Refused why → (next : Verdict) → c ≡ checked_by (stitches_verdict P next)
+pub stitches_stay : (P : List ℤ) {c : Result (Unit {0}) Refusal} {why : Refusal} → c ≡ answer_by (stitches_verdict P accepted) tt → c ≡ Err why → (next : Verdict) → c ≡ answer_by (stitches_verdict P next) tt
 stitches_stay P = stays (stitches_verdict P) (stitches_row P)
 
 tables_row : (m low high wi wj : ℕ) → Row (tables_verdict m low high wi wj)
@@ -82,48 +80,48 @@ room_row m n survivors positions =
     (refuse_row (ltb positions (windows_of m n)) (ShortPositions (windows_of m n))))
 
 -- what follows the sizes, likewise
-pub sizes_through : (P : List ℤ) (low high wi wj : ℕ) → Fine ≡ checked_by (prepare_verdict P low high wi wj) → Passing (sizes P low high wi wj)
+pub sizes_through : (P : List ℤ) (low high wi wj : ℕ) → done ≡ answer_by (prepare_verdict P low high wi wj) tt → Passing (sizes P low high wi wj)
 unfolding prepare_verdict
 sizes_through P low high wi wj e = through (sizes P low high wi wj) (sizes_row P low high wi wj) e
 
-pub sizes_stay : (P : List ℤ) (low high wi wj : ℕ) (why : Refusal) → Refused why ≡ checked_by (prepare_verdict P low high wi wj) → Refusing (sizes P low high wi wj) why
+pub sizes_stay : (P : List ℤ) (low high wi wj : ℕ) (why : Refusal) → unmet why ≡ answer_by (prepare_verdict P low high wi wj) tt → Refusing (sizes P low high wi wj) why
 unfolding prepare_verdict
-sizes_stay P low high wi wj why e = row_refuses (sizes P low high wi wj) (sizes_row P low high wi wj) (refused_why (sizes P low high wi wj accepted) why e)
+sizes_stay P low high wi wj why e = row_refuses (sizes P low high wi wj) (sizes_row P low high wi wj) (err_refused (sizes P low high wi wj accepted) tt e)
 
 -- ---- a lost stitch, by the two looks for it
 
 module _ (P : List ℤ) where
-  pub some-lost : {k : ℕ} → true ≡ holds_lost_lem P → k ≡ or_end (first_lost_lem P) (length P) → Refused (LostStitch k) ≡ checked_by (stitches_verdict P accepted)
+  pub some-lost : {k : ℕ} → true ≡ holds_lost_lem P → k ≡ or_end (first_lost_lem P) (length P) → unmet (LostStitch k) ≡ answer_by (stitches_verdict P accepted) tt
   unfolding holds_lost_lem is_none stitches_verdict
   some-lost {k} e f = go (first_lost_lem P) e f
     where
-      go : (s : Spot) → true ≡ not (is_none s) → k ≡ or_end s (length P) → Refused (LostStitch k) ≡ checked_by (refuse_at s LostStitch accepted)
+      go : (s : Spot) → true ≡ not (is_none s) → k ≡ or_end s (length P) → unmet (LostStitch k) ≡ answer_by (refuse_at s LostStitch accepted) tt
       go none e f = clash (sym e) refl
       go (place i) e f = rw f refl
 
-  pub none_lost : false ≡ holds_lost_lem P → Fine ≡ checked_by (stitches_verdict P accepted)
+  pub none_lost : false ≡ holds_lost_lem P → done ≡ answer_by (stitches_verdict P accepted) tt
   unfolding holds_lost_lem is_none stitches_verdict
   none_lost e = go (first_lost_lem P) e
     where
-      go : (s : Spot) → false ≡ not (is_none s) → Fine ≡ checked_by (refuse_at s LostStitch accepted)
+      go : (s : Spot) → false ≡ not (is_none s) → done ≡ answer_by (refuse_at s LostStitch accepted) tt
       go none e = refl
       go (place i) e = clash refl (sym e)
 
 -- ---- the row of the trace and the buffers, condition by condition
 
 module _ (m n survivors positions : ℕ) where
-  pub room-long : trace_limit < n → Unfit (LongTrace n) ≡ fitting_by (room_verdict m n survivors positions accepted) (windows_of m n)
+  pub room-long : trace_limit < n → Err (LongTrace n) ≡ answer_by (room_verdict m n survivors positions accepted) (windows_of m n)
   unfolding room_verdict
   room-long h = rw (lt-ltb trace_limit n h) refl
 
-  pub room-survivors : {windows : ℕ} → n ≤ trace_limit → windows ≡ windows_of m n → survivors < windows → Unfit (ShortSurvivors windows) ≡ fitting_by (room_verdict m n survivors positions accepted) (windows_of m n)
+  pub room-survivors : {windows : ℕ} → n ≤ trace_limit → windows ≡ windows_of m n → survivors < windows → Err (ShortSurvivors windows) ≡ answer_by (room_verdict m n survivors positions accepted) (windows_of m n)
   unfolding room_verdict
   room-survivors {windows} h e k = rw (le-ltb trace_limit n h, ← e, lt-ltb survivors windows k) refl
 
-  pub room-positions : {windows : ℕ} → n ≤ trace_limit → windows ≡ windows_of m n → windows ≤ survivors → positions < windows → Unfit (ShortPositions windows) ≡ fitting_by (room_verdict m n survivors positions accepted) (windows_of m n)
+  pub room-positions : {windows : ℕ} → n ≤ trace_limit → windows ≡ windows_of m n → windows ≤ survivors → positions < windows → Err (ShortPositions windows) ≡ answer_by (room_verdict m n survivors positions accepted) (windows_of m n)
   unfolding room_verdict
   room-positions {windows} h e k l = rw (le-ltb trace_limit n h, ← e, le-ltb survivors windows k, lt-ltb positions windows l) refl
 
-  pub room_fine : {windows : ℕ} → n ≤ trace_limit → windows ≡ windows_of m n → windows ≤ survivors → windows ≤ positions → Fit windows ≡ fitting_by (room_verdict m n survivors positions accepted) (windows_of m n)
+  pub room_fine : {windows : ℕ} → n ≤ trace_limit → windows ≡ windows_of m n → windows ≤ survivors → windows ≤ positions → Ok windows ≡ answer_by (room_verdict m n survivors positions accepted) (windows_of m n)
   unfolding room_verdict
   room_fine {windows} h e k l = rw (le-ltb trace_limit n h, ← e, le-ltb survivors windows k, le-ltb positions windows l) refl

@@ -1,4 +1,4 @@
--- Shows: the verdict behind the answer of a row of conditions, and what holds of a pattern and of lengths where all are passed.
+-- Shows: what holds of a pattern and of lengths where a row of conditions is passed.
 -- Assumes nothing.
 use mathlib.Core.Path.{◌≡◌, refl}
 use Prim.Native.Nat.{ℕ, ◌≤◌, ◌<◌}
@@ -10,33 +10,12 @@ use lib.ListN.{length}
 use native.Mathlib.Omega.{arith}
 use borrow.Author.Tests.{eqb-false, ltb-false, le-ltb}
 use Rattle.order.specs.declared.refusal.Table.TheVariants.{Low, High, WitnessI, WitnessJ}
-use Rattle.order.specs.declared.refusal.Refusal.{Refusal}
 use Rattle.order.specs.declared.refusal.Refusal.TheVariants.{EmptyPattern, LongPattern, ShortTable, LostStitch}
 use Rattle.order.specs.Sizes.{none, pattern_limit, trace_limit, windows_of}
 use Rattle.order.specs.Lost.{first_lost_lem}
-use Rattle.order.specs.Refusals.{Verdict, accepted, refused, refuse, pattern_verdict, stitches_verdict, witnesses_verdict, tables_verdict, prepare_verdict, agree_verdict, room_verdict}
+use Rattle.order.specs.Refusals.{Verdict, accepted, refuse, pattern_verdict, stitches_verdict, witnesses_verdict, tables_verdict, prepare_verdict, agree_verdict, room_verdict}
 use Rattle.order.proofs.Rows.{passed, passed_at}
-use Rattle.sizes.specs.declared.answers.Checked.TheVariants.{Fine, Refused}
-use Rattle.sizes.specs.Answers.{checked_by, fitting_by}
-use Rattle.sizes.specs.declared.answers.Fitting.TheVariants.{Fit, Refused as Unfit}
 use Rattle.sizes.specs.Lengths.{Room}
-
--- the verdict behind an answer
-pub fine_accepted : (w : Verdict) → Fine ≡ checked_by w → w ≡ accepted
-fine_accepted accepted e = refl
-fine_accepted (refused r) e = cc
-
-pub refused_why : (w : Verdict) (why : Refusal) → Refused why ≡ checked_by w → w ≡ refused why
-refused_why accepted why e = cc
-refused_why (refused r) why e = cc
-
-pub fit_accepted : (w : Verdict) (n : ℕ) {windows : ℕ} → Fit windows ≡ fitting_by w n → (w ≡ accepted) × (windows ≡ n)
-fit_accepted accepted n e = (refl, cc)
-fit_accepted (refused r) n e = (cc, cc)
-
-pub unfit_why : (w : Verdict) (n : ℕ) {why : Refusal} → Unfit why ≡ fitting_by w n → w ≡ refused why
-unfit_why accepted n e = cc
-unfit_why (refused r) n e = cc
 
 pub pattern_passed : (m : ℕ) (next : Verdict) → pattern_verdict m next ≡ accepted → (0 < m) × (m ≤ pattern_limit) × (next ≡ accepted)
 unfolding pattern_verdict

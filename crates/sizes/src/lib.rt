@@ -6,12 +6,10 @@
 
 #![tactic(auto)]
 
-mod answers;
 mod lost_stitches;
 mod search_sizes;
 mod short_tables;
 mod table_sizes;
 
-pub use answers::{Checked, Fitting};
 pub use search_sizes::{for_room, for_search};
 pub use table_sizes::{for_agreement, for_pattern, for_tables};

@@ -3,18 +3,17 @@
 
 ghost use Rattle.std.specs.Prelude.{◌≡◌};
 ghost use Rattle.order.specs.Refusals.{accepted, stitches_verdict};
-ghost use Rattle.sizes.specs.Answers.{checked_by};
+ghost use Rattle.order.specs.Answers.{answer_by};
 
-use crate::answers::Checked;
 use order::Refusal;
 use stitches::{first_lost, holds_lost};
 
 // 21: the pattern's first lost stitch.
-pub(crate) fn check(pattern: &[i32]) -> Checked
-    ensures { result ≡ checked_by (stitches_verdict pattern.now accepted) }
+pub(crate) fn check(pattern: &[i32]) -> Result<(), Refusal>
+    ensures { result ≡ answer_by (stitches_verdict pattern.now accepted) tt }
 {
     if holds_lost(pattern) {
-        return Checked::Refused(Refusal::LostStitch(first_lost(pattern)));
+        return Err(Refusal::LostStitch(first_lost(pattern)));
     }
-    Checked::Fine
+    Ok(())
 }

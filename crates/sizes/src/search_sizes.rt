@@ -7,10 +7,9 @@
 ghost use Rattle.std.specs.Prelude.{◌≡◌, ◌≤◌};
 ghost use Rattle.order.specs.Sizes.{windows_of, trace_limit};
 ghost use Rattle.order.specs.Refusals.{accepted, room_verdict};
-ghost use Rattle.sizes.specs.Answers.{fitting_by};
+ghost use Rattle.order.specs.Answers.{answer_by};
 ghost use Rattle.sizes.specs.Lengths.{FittingPromise};
 
-use crate::answers::{Checked, Fitting};
 use crate::table_sizes::for_tables;
 use order::{Refusal, TRACE_LIMIT};
 
@@ -26,20 +25,20 @@ fn count_windows(m: usize, n: usize) -> usize
 }
 
 // 4 to 6: the trace's length, and room in the two buffers of a search, for a pattern of m samples.
-pub fn for_room(m: usize, n: usize, survivors: usize, positions: usize) -> Fitting
-    ensures { result ≡ fitting_by (room_verdict m n survivors positions accepted) (windows_of m n) }
+pub fn for_room(m: usize, n: usize, survivors: usize, positions: usize) -> Result<usize, Refusal>
+    ensures { result ≡ answer_by (room_verdict m n survivors positions accepted) (windows_of m n) }
 {
     if TRACE_LIMIT < n {
-        return Fitting::Refused(Refusal::LongTrace(n));
+        return Err(Refusal::LongTrace(n));
     }
     let windows = count_windows(m, n);
     if survivors < windows {
-        return Fitting::Refused(Refusal::ShortSurvivors(windows));
+        return Err(Refusal::ShortSurvivors(windows));
     }
     if positions < windows {
-        return Fitting::Refused(Refusal::ShortPositions(windows));
+        return Err(Refusal::ShortPositions(windows));
     }
-    Fitting::Fit(windows)
+    Ok(windows)
 }
 
 // A pattern, and the lengths of its tables, of a trace and of the buffers of a search, in entries.
@@ -52,11 +51,9 @@ pub fn for_search(
     n: usize,
     survivors: usize,
     positions: usize,
-) -> Fitting
+) -> Result<usize, Refusal>
     ensures { FittingPromise pattern.now low high witness_i witness_j n survivors positions result }
 {
-    match for_tables(pattern, low, high, witness_i, witness_j) {
-        Checked::Refused(why) => Fitting::Refused(why),
-        Checked::Fine => for_room(pattern.len(), n, survivors, positions),
-    }
+    for_tables(pattern, low, high, witness_i, witness_j)?;
+    for_room(pattern.len(), n, survivors, positions)
 }

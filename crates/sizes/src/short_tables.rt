@@ -2,9 +2,8 @@
 
 ghost use Rattle.std.specs.Prelude.{◌≡◌};
 ghost use Rattle.order.specs.Refusals.{accepted, tables_verdict};
-ghost use Rattle.sizes.specs.Answers.{checked_by};
+ghost use Rattle.order.specs.Answers.{answer_by};
 
-use crate::answers::Checked;
 use order::{Refusal, Table};
 
 // 3: the first table that is too short.
@@ -14,20 +13,20 @@ pub(crate) fn check(
     high: usize,
     witness_i: usize,
     witness_j: usize,
-) -> Checked
-    ensures { result ≡ checked_by (tables_verdict m low high witness_i witness_j accepted) }
+) -> Result<(), Refusal>
+    ensures { result ≡ answer_by (tables_verdict m low high witness_i witness_j accepted) tt }
 {
     if low < m {
-        return Checked::Refused(Refusal::ShortTable(Table::Low));
+        return Err(Refusal::ShortTable(Table::Low));
     }
     if high < m {
-        return Checked::Refused(Refusal::ShortTable(Table::High));
+        return Err(Refusal::ShortTable(Table::High));
     }
     if witness_i < m {
-        return Checked::Refused(Refusal::ShortTable(Table::WitnessI));
+        return Err(Refusal::ShortTable(Table::WitnessI));
     }
     if witness_j < m {
-        return Checked::Refused(Refusal::ShortTable(Table::WitnessJ));
+        return Err(Refusal::ShortTable(Table::WitnessJ));
     }
-    Checked::Fine
+    Ok(())
 }

@@ -5,23 +5,22 @@
 
 ghost use Rattle.std.specs.Prelude.{◌≡◌};
 ghost use Rattle.order.specs.Refusals.{accepted, pattern_verdict, prepare_verdict, agree_verdict};
-ghost use Rattle.sizes.specs.Answers.{checked_by};
+ghost use Rattle.order.specs.Answers.{answer_by};
 
-use crate::answers::Checked;
 use crate::{lost_stitches, short_tables};
 use order::{PATTERN_LIMIT, Refusal};
 
 // 1 and 2: the pattern's length.
-pub fn for_pattern(m: usize) -> Checked
-    ensures { result ≡ checked_by (pattern_verdict m accepted) }
+pub fn for_pattern(m: usize) -> Result<(), Refusal>
+    ensures { result ≡ answer_by (pattern_verdict m accepted) tt }
 {
     if m == 0 {
-        return Checked::Refused(Refusal::EmptyPattern);
+        return Err(Refusal::EmptyPattern);
     }
     if PATTERN_LIMIT < m {
-        return Checked::Refused(Refusal::LongPattern(m));
+        return Err(Refusal::LongPattern(m));
     }
-    Checked::Fine
+    Ok(())
 }
 
 // A pattern, and the lengths of its four tables, in entries. A caller that has not all four gives the pattern's length for those that it
@@ -32,28 +31,19 @@ pub fn for_tables(
     high: usize,
     witness_i: usize,
     witness_j: usize,
-) -> Checked
-    ensures { result ≡ checked_by (prepare_verdict pattern.now low high witness_i witness_j) }
+) -> Result<(), Refusal>
+    ensures { result ≡ answer_by (prepare_verdict pattern.now low high witness_i witness_j) tt }
 {
     let m = pattern.len();
-    let length = for_pattern(m);
-    let Checked::Fine = length else {
-        return length;
-    };
-    let stitches = lost_stitches::check(pattern);
-    let Checked::Fine = stitches else {
-        return stitches;
-    };
+    for_pattern(m)?;
+    lost_stitches::check(pattern)?;
     short_tables::check(m, low, high, witness_i, witness_j)
 }
 
 // A pattern's length alone, and those of its witness tables.
-pub fn for_agreement(m: usize, witness_i: usize, witness_j: usize) -> Checked
-    ensures { result ≡ checked_by (agree_verdict m witness_i witness_j) }
+pub fn for_agreement(m: usize, witness_i: usize, witness_j: usize) -> Result<(), Refusal>
+    ensures { result ≡ answer_by (agree_verdict m witness_i witness_j) tt }
 {
-    let length = for_pattern(m);
-    let Checked::Fine = length else {
-        return length;
-    };
+    for_pattern(m)?;
     short_tables::check(m, m, m, witness_i, witness_j)
 }

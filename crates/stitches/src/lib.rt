@@ -19,8 +19,8 @@ pub fn holds_lost(samples: &[i32]) -> bool
     ensures { result ≡ holds_lost_lem samples.now }
 {
     let mut some = false;
-    for i in 0..samples.len() {
-        some = some | (samples[i] == LOST);
+    for sample in samples {
+        some = some | (*sample == LOST);
     }
     some
 }

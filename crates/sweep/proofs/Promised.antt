@@ -7,21 +7,21 @@ use mathlib.Core.List.{List, [], ◌∷◌, ◌++◌}
 use mathlib.Core.Bool.{Bool, true, false, cond}
 use native.Mathlib.Omega.{arith}
 use native.Mathlib.Numerals.{add-one}
+use Rattle.std.specs.Prelude.{Result, Ok, Err}
 use lib.Dec.{ltb, eqb}
 use lib.IntN.{ℤ}
 use lib.ListN.{length, get_or, take, drop, take-append-drop, drop_of_length-le}
 use lib.Seq.{length-take-le, drop-cons}
 use borrow.Author.Tests.{lt-ltb, le-ltb, le-leb, lt-leb}
-use Rattle.order.specs.declared.relation.Relation.TheVariants.{Less, Equal, Greater}
+use Rattle.std.specs.declared.cmp.Ordering.TheVariants.{Less, Equal, Greater}
 use Rattle.order.specs.declared.steps.Tested.TheVariants.{Passed, Failed}
+use Rattle.order.specs.declared.refusal.Refusal.{Refusal}
 use Rattle.order.specs.declared.refusal.Refusal.TheVariants.{ShortPositions}
 use Rattle.order.specs.Sizes.{as_place, window, passing}
 use Rattle.order.specs.PlaceTest.{cost}
 use Rattle.order.specs.EntryTest.{told, under_high_lem, test_by}
 use Rattle.order.specs.Sweeping.{Swept, swept, sweep_all_lem}
 use Rattle.sweep.specs.declared.answers.Swept.{Swept as Spent}
-use Rattle.sweep.specs.declared.answers.Sweep.{Sweep}
-use Rattle.sweep.specs.declared.answers.Sweep.TheVariants.{Done, Refused}
 use Rattle.sweep.specs.Sweeps.{places_of, entry_tests, inside_part, swept_of, list_verdict, SweepPromise}
 use Rattle.sweep.specs.Inside.{SweptTo, SweptAll}
 use Rattle.sweep.proofs.Testing.{Cheap}
@@ -103,24 +103,24 @@ all_swept {low} {high} {T} {ws} {before} {after} {k} {reach} {spent} {found} i b
 -- ---- the promise
 
 module _ (low high : List ℕ) (T : List ℤ) (ws before : List ℕ) where
-  pub sweep_refused : length before < length ws → SweepPromise low high T ws before (Refused (ShortPositions (length ws))) before
+  pub sweep_refused : length before < length ws → SweepPromise low high T ws before (Err (ShortPositions (length ws))) before
   unfolding list_verdict
   sweep_refused h =
       let v = lt-ltb (length before) (length ws) h in
       record { number = rw v refl; place = rw v refl; answer = rw v refl; positions_after = rw v refl; bound = λ s e. absurd (let z : ◌≡◌ {A = ℕ} 0 1 = cc in omega arith) }
 
-  pub sweep_done : {s : Spent} {after : List ℕ} → length ws ≤ length before → SweptAll low high T ws before after s.spent s.found → SweepPromise low high T ws before (Done s) after
+  pub sweep_done : {s : Spent} {after : List ℕ} → length ws ≤ length before → SweptAll low high T ws before after s.spent s.found → SweepPromise low high T ws before (Ok s) after
   unfolding list_verdict
   sweep_done {s} h a =
       let v = le-ltb (length before) (length ws) h in
       record {
         number = rw v refl;
         place = rw v refl;
-        answer = rw v (ap Done (ap₂ (λ p q. record { spent = p; found = q }) a.cost_is a.found_is));
+        answer = rw v (ap Ok (ap₂ (λ p q. record { spent = p; found = q }) a.cost_is a.found_is));
         positions_after = rw v a.listed;
         bound = λ t e. let same : s ≡ t = cc in subst (λ (u : Spent). u.spent ≤ 2 * (length T + length ws)) same a.bound;
       }
 
   -- no second answer, and no other content of the list
-  pub sweep_only_answer : {r s : Sweep} {after₁ after₂ : List ℕ} → SweepPromise low high T ws before r after₁ → SweepPromise low high T ws before s after₂ → (r ≡ s) × (after₁ ≡ after₂)
+  pub sweep_only_answer : {r s : Result Spent Refusal} {after₁ after₂ : List ℕ} → SweepPromise low high T ws before r after₁ → SweepPromise low high T ws before s after₂ → (r ≡ s) × (after₁ ≡ after₂)
   sweep_only_answer p q = (p.answer ∙ sym q.answer, p.positions_after ∙ sym q.positions_after)

@@ -1,16 +1,16 @@
 -- "Sweep", by the entries of two tables as they stand, of any list of windows.
-use Rattle.std.specs.Prelude.{ℕ, ◌+◌, ◌*◌, ◌≤◌, min, ◌≡◌, List, [], leb, ltb, ℤ, length, get_or}
+use Rattle.std.specs.Prelude.{ℕ, ◌+◌, ◌*◌, ◌≤◌, min, ◌≡◌, List, [], leb, ltb, ℤ, length, get_or, Result, Ok}
 use Rattle.order.specs.declared.steps.Tested.{Tested}
 use Rattle.order.specs.declared.refusal.Refusal.TheVariants.{ShortPositions}
 use Rattle.order.specs.Sizes.{window, passing}
 use Rattle.order.specs.PlaceTest.{cost}
 use Rattle.order.specs.EntryTest.{test_by}
 use Rattle.order.specs.Sweeping.{Swept, swept, sweep_all_lem}
-use Rattle.order.specs.Refusals.{Verdict, accepted, refused, refuse, number_of, place_of, verdict_number, verdict_place}
+use Rattle.order.specs.declared.refusal.Refusal.{Refusal}
+use Rattle.order.specs.Refusals.{Verdict, accepted, refuse, verdict_number, verdict_place}
+use Rattle.order.specs.Answers.{answer_number, answer_place, answer_by}
 use Rattle.order.specs.Written.{after_verdict}
 use Rattle.sweep.specs.declared.answers.Swept.{Swept as Spent}
-use Rattle.sweep.specs.declared.answers.Sweep.{Sweep}
-use Rattle.sweep.specs.declared.answers.Sweep.TheVariants.{Done, Refused}
 
 -- how many places a window has: as many as both tables have entries
 abbrev pub places_of : List ℕ → List ℕ → ℕ
@@ -33,30 +33,17 @@ swept_of low high T ws =
 unfoldable pub list_verdict : List ℕ → List ℕ → Verdict
 list_verdict ws before = refuse (ltb (length before) (length ws)) (ShortPositions (length ws)) accepted
 
--- the number and place of each case of the answer, and which case a verdict comes to
-abbrev pub sweep_number : Sweep → ℕ
-sweep_number (Done s) = 0
-sweep_number (Refused r) = number_of r
-
-abbrev pub sweep_place : Sweep → ℕ
-sweep_place (Done s) = 0
-sweep_place (Refused r) = place_of r
-
-abbrev pub sweep_by : Verdict → Spent → Sweep
-sweep_by accepted s = Done s
-sweep_by (refused r) s = Refused r
-
 -- what was spent and how many were listed
 abbrev pub spent_of : Swept → Spent
 spent_of s = record { spent = s.total; found = length s.listed }
 
 -- a sweep of the windows ws of the trace T by the tables low and high, into a list that holds `before`: the answer r, and what the list
 -- holds after it
-pub record SweepPromise (low high : List ℕ) (T : List ℤ) (ws before : List ℕ) (r : Sweep) (after : List ℕ) : Type 0 where
-  pub number : sweep_number r ≡ verdict_number (list_verdict ws before)
-  pub place : sweep_place r ≡ verdict_place (list_verdict ws before)
-  pub answer : r ≡ sweep_by (list_verdict ws before) (spent_of (swept_of low high T ws))
+pub record SweepPromise (low high : List ℕ) (T : List ℤ) (ws before : List ℕ) (r : Result Spent Refusal) (after : List ℕ) : Type 0 where
+  pub number : answer_number r ≡ verdict_number (list_verdict ws before)
+  pub place : answer_place r ≡ verdict_place (list_verdict ws before)
+  pub answer : r ≡ answer_by (list_verdict ws before) (spent_of (swept_of low high T ws))
   -- the listed windows from entry 0 on, then what it held; as it was if refused
   pub positions_after : after ≡ after_verdict (list_verdict ws before) (swept_of low high T ws).listed before
   -- no more than two comparisons for each sample and each window
-  pub bound : (s : Spent) → r ≡ Done s → s.spent ≤ 2 * (length T + length ws)
+  pub bound : (s : Spent) → r ≡ Ok s → s.spent ≤ 2 * (length T + length ws)

@@ -9,5 +9,5 @@
 mod answers;
 mod sweeping;
 
-pub use answers::{Sweep, Swept};
+pub use answers::Swept;
 pub use sweeping::sweep;

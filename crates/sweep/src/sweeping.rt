@@ -8,10 +8,9 @@ ghost use Rattle.std.specs.Prelude.{◌≤◌, length};
 ghost use Rattle.sweep.specs.Sweeps.{entry_tests, SweepPromise};
 ghost use Rattle.sweep.specs.Inside.{Testable, SweptOne, SweptAll};
 
-use crate::answers::{Sweep, Swept};
+use crate::answers::Swept;
 use lists::list_one;
 use order::{Place, Refusal, Tested, Window, test_place};
-use words::{larger, smaller, wide32};
 
 // Where the tests of one window end: E, the comparisons spent so far, and whether all its places passed.
 #[derive(Clone, Copy)]
@@ -36,18 +35,20 @@ fn sweep_one(
 {
     let start = x.0;
     let window = &trace[start..start + m];
+    // Counted by hand: where the tests end is then the sum of two numbers. After a range it is the greater of two, three steps more a window,
+    // which is a quarter of all that a sweep of a walk by four places takes.
     let mut j = from - start;
     let mut spent = before;
     while j < m {
         match test_place(low[j], high[j], window, Place(j)) {
             Tested::Passed(cost) => {
-                spent += wide32(cost);
+                spent += cost as usize;
                 j += 1;
             }
             Tested::Failed(cost, _) => {
                 return Reached {
                     reach: start + j,
-                    spent: spent + wide32(cost),
+                    spent: spent + cost as usize,
                     whole: false,
                 };
             }
@@ -71,27 +72,16 @@ fn sweep_all(
     requires { length windows.now ≤ length positions.old }
     ensures { SweptAll low.now high.now trace.now windows.now positions.old positions.new result.spent result.found }
 {
-    let m = smaller(low.len(), high.len());
+    let m = low.len().min(high.len());
     let mut reach: usize = 0;
     let mut spent: usize = 0;
     let mut found: usize = 0;
-    let mut k: usize = 0;
-    while k < windows.len() {
-        let x = windows[k];
-        let start = wide32(x);
-        k += 1;
+    for &x in windows {
+        let start = x as usize;
         if trace.len() < start + m {
             continue;
         }
-        let end = sweep_one(
-            low,
-            high,
-            m,
-            trace,
-            Window(start),
-            larger(reach, start),
-            spent,
-        );
+        let end = sweep_one(low, high, m, trace, Window(start), reach.max(start), spent);
         reach = end.reach;
         spent = end.spent;
         found = list_one(positions, found, x, end.whole);
@@ -106,12 +96,12 @@ pub fn sweep(
     trace: &[i32],
     windows: &[u32],
     positions: &mut [u32],
-) -> Sweep
+) -> Result<Swept, Refusal>
     ensures { SweepPromise low.now high.now trace.now windows.now positions.old result positions.new }
 {
     let count = windows.len();
     if positions.len() < count {
-        return Sweep::Refused(Refusal::ShortPositions(count));
+        return Err(Refusal::ShortPositions(count));
     }
-    Sweep::Done(sweep_all(low, high, trace, windows, positions))
+    Ok(sweep_all(low, high, trace, windows, positions))
 }

@@ -2,14 +2,19 @@
 -- row of the four tables; and tables that nothing refuses are the pattern's own.
 -- Assumes nothing.
 use Prim.Native.Nat.{ℕ, ◌≤◌, ◌<◌}
-use mathlib.Core.Path.{◌≡◌, refl, sym, ◌∙◌, ap, subst}
+use mathlib.Core.Path.{◌≡◌, refl, sym, ◌∙◌, ap, ap₂, subst}
 use mathlib.Core.List.{List}
 use mathlib.Core.Bool.{Bool, true, false, cond, not}
 use native.Mathlib.Omega.{arith}
 use lib.Dec.{ltb, eqb}
 use lib.IntN.{ℤ}
-use lib.ListN.{length, get_or}
-use borrow.Author.Tests.{ltb-true, ltb-false, lt-ltb, le-ltb, eq-eqb, ne_eqb, eqb-true}
+use lib.ListN.{length, length-take, get_or, take}
+use Rattle.std.proofs.Common.{get_or-take}
+use Rattle.std.specs.List.{position_or_len}
+use Rattle.std.specs.Prelude.{Result, Option, Some, None, position, zip}
+use borrow.Author.Tests.{ltb-true, ltb-false, eq-eqb, ne_eqb, eqb-true, not-true, not-false}
+use Rattle.std.proofs.lemmas.List.Sums.{prefix_len_passes, prefix_len_stops}
+use Rattle.std.proofs.lemmas.Slice.Zip.{get_or-zip, length-zip}
 use Rattle.order.specs.declared.refusal.Table.{Table}
 use Rattle.order.specs.declared.refusal.Table.TheVariants.{Low, High, WitnessI, WitnessJ}
 use Rattle.order.specs.declared.refusal.Refusal.{Refusal}
@@ -23,12 +28,33 @@ use Rattle.order.proofs.Tests.{clash}
 use Rattle.order.proofs.Lists.{Finds, finds_lowest, lowest_finds}
 use Rattle.order.proofs.Filling.{over_at}
 use Rattle.order.proofs.Rows.{Row, refuse_at_row, then_row, row_passes, row_refuses, passed_at}
-use Rattle.sizes.specs.declared.answers.Checked.{Checked}
-use Rattle.sizes.specs.declared.answers.Checked.TheVariants.{Fine, Refused}
-use Rattle.sizes.specs.Answers.{checked_by}
-use Rattle.sizes.proofs.Verdicts.{fine_accepted, refused_why}
-use Rattle.tables.specs.Inside.Asked.{OwnNeighbours, FirstDifference}
-use Rattle.tables.specs.Inside.Halves.{below, in_turn, neighbours_half, witnesses_half}
+use Rattle.order.specs.Answers.{answer_by}
+use Rattle.order.proofs.Answered.{done, unmet, ok_accepted, err_refused}
+use Rattle.tables.specs.Inside.Asked.{OwnNeighbours}
+use Rattle.tables.specs.Inside.Halves.{differing, spot_of, in_turn, neighbours_half, witnesses_half}
+
+-- ---- the first place of a list
+
+module _ (p : (ℕ × ℕ) → Bool) (xs : List (ℕ × ℕ)) where
+  position_finds : Finds (λ k. p (get_or xs k (0, 0))) (length xs) (spot_of (position p xs))
+  position_finds = go (ltb (position_or_len p xs) (length xs)) refl
+    where
+      before : (k : ℕ) → k < position_or_len p xs → p (get_or xs k (0, 0)) ≡ false
+      before k h = not-true (p (get_or xs k (0, 0))) (prefix_len_passes (λ x. not (p x)) xs k (0, 0) h)
+
+      go : (t : Bool) → ltb (position_or_len p xs) (length xs) ≡ t → Finds (λ k. p (get_or xs k (0, 0))) (length xs) (spot_of (cond t (Some (position_or_len p xs)) None))
+      go true e =
+          let h : position_or_len p xs < length xs = ltb-true (position_or_len p xs) (length xs) e in
+          record {
+            below = h;
+            here = not-false (p (get_or xs (position_or_len p xs) (0, 0))) (prefix_len_stops (λ x. not (p x)) xs (0, 0) h);
+            earlier = before;
+          }
+      go false e = λ k h. let g : length xs ≤ position_or_len p xs = ltb-false (position_or_len p xs) (length xs) e in before k (omega arith)
+
+finds_same : {p q : ℕ → Bool} {n : ℕ} → ((k : ℕ) → k < n → p k ≡ q k) → (s : Spot) → Finds p n s → Finds q n s
+finds_same f none g = λ k h. sym (f k h) ∙ g k h
+finds_same f (place j) g = let b = g.below in record { below = b; here = sym (f j b) ∙ g.here; earlier = λ k h. sym (f k (omega arith)) ∙ g.earlier k h }
 
 -- ---- one table
 
@@ -57,33 +83,27 @@ module _ (table : List ℕ) (own : ℕ → Spot) where
   none_foreign m f = finds_lowest (foreign_at table own) m none (λ k h. same_passes k (f k h))
 
   -- what is written over a buffer, and where the table differs from that
-  module _ {m r : ℕ} {mine : List ℕ} (buffer : List ℕ) (w : mine ≡ over (each (λ k. entry (own k)) m) buffer) (d : FirstDifference table mine m r) where
+  module _ {m : ℕ} {mine : List ℕ} (room : m ≤ length table) (buffer : List ℕ) (w : mine ≡ over (each (λ k. entry (own k)) m) buffer) where
     there : (k : ℕ) → k < m → get_or mine k 0 ≡ entry (own k)
     there k h = ap (λ v. get_or v k 0) w ∙ over_at (λ k. entry (own k)) k 0 buffer h
 
-    found_foreign : lowest (foreign_at table own) m ≡ below r m
-    found_foreign = go (ltb r m) refl
-      where
-        alike : (k : ℕ) → k < r → foreign_at table own k ≡ false
-        alike k h = let w = d.within in same_passes k (d.alike_before k h ∙ there k (omega arith))
+    -- at an entry below m the two are compared
+    compared : m ≤ length mine → (k : ℕ) → k < m → differing (get_or (zip (take m table) mine) k (0, 0)) ≡ foreign_at table own k
+    unfolding foreign_at
+    compared long k h =
+        let inside : k < length (take m table) = omega (arith, length-take m table) in
+        let low : k < length mine = omega arith in
+        ap differing (get_or-zip (take m table) mine k (0, 0) inside low) ∙
+        ap₂ (λ (a b : ℕ). not (eqb a b)) (get_or-take m table k 0 h) (there k h)
 
-        go : (t : Bool) → ltb r m ≡ t → lowest (foreign_at table own) m ≡ cond t (place r) none
-        go true e =
-            let h : r < m = ltb-true r m e in
-            finds_lowest (foreign_at table own) m (place r) (record { below = h; here = other_fails r (λ q. d.differs h (q ∙ sym (there r h))); earlier = alike })
-        go false e = let h : m ≤ r = ltb-false r m e in finds_lowest (foreign_at table own) m none (λ k l. alike k (omega arith))
-
--- ---- two tables in turn, by the entries found
-
-module _ (t : Table) (a : ℕ) (u : Table) (b m : ℕ) where
-  pub first-differs : a < m → Refused (ForeignEntry t a) ≡ checked_by (in_turn t (below a m) u (below b m) accepted)
-  first-differs h = rw (lt-ltb a m h) refl
-
-  pub second_differs : m ≤ a → b < m → Refused (ForeignEntry u b) ≡ checked_by (in_turn t (below a m) u (below b m) accepted)
-  second_differs h k = rw (le-ltb a m h, lt-ltb b m k) refl
-
-  pub neither_differs : m ≤ a → m ≤ b → Fine ≡ checked_by (in_turn t (below a m) u (below b m) accepted)
-  neither_differs h k = rw (le-ltb a m h, le-ltb b m k) refl
+    found_foreign : m ≤ length mine → {r : Option ℕ} → r ≡ position differing (zip (take m table) mine) → lowest (foreign_at table own) m ≡ spot_of r
+    found_foreign long {r} e =
+        let size : length (zip (take m table) mine) ≡ m = omega (arith, length-zip (take m table) mine, length-take m table) in
+        finds_lowest (foreign_at table own) m (spot_of r)
+        (finds_same (compared long) (spot_of r)
+        (subst (λ (o : Option ℕ). Finds (λ k. differing (get_or (zip (take m table) mine) k (0, 0))) m (spot_of o)) (sym e)
+        (subst (λ (n : ℕ). Finds (λ k. differing (get_or (zip (take m table) mine) k (0, 0))) n (spot_of (position differing (zip (take m table) mine)))) size
+        (position_finds differing (zip (take m table) mine)))))
 
 -- ---- the halves
 
@@ -92,22 +112,23 @@ in_turn_row t a u b = then_row (refuse_at a (ForeignEntry t)) (refuse_at b (Fore
 
 module _ (P : List ℤ) (low high : List ℕ) where
   -- by the neighbours written over two buffers
-  pub against-neighbours : (l h : List ℕ) {low' high' : List ℕ} {a b : ℕ} {c : Checked}
+  pub against-neighbours : (l h : List ℕ) {low' high' : List ℕ} {a b : Option ℕ} {c : Result (Unit {0}) Refusal}
       → (low' ≡ over (low_table P) l) × (high' ≡ over (high_table P) h)
-      → FirstDifference low low' (length P) a → FirstDifference high high' (length P) b
-      → c ≡ checked_by (in_turn Low (below a (length P)) High (below b (length P)) accepted) → c ≡ checked_by (neighbours_half P low high accepted)
+      → length P ≤ length low → length P ≤ length high → length P ≤ length low' → length P ≤ length high'
+      → a ≡ position differing (zip (take (length P) low) low') → b ≡ position differing (zip (take (length P) high) high')
+      → c ≡ answer_by (in_turn Low (spot_of a) High (spot_of b) accepted) tt → c ≡ answer_by (neighbours_half P low high accepted) tt
   unfolding low_table high_table neighbours_half
-  against-neighbours l h w p q e = e ∙ sym (rw (found_foreign low (low_of P) l w.0 p, found_foreign high (high_of P) h w.1 q) refl)
+  against-neighbours l h w x y x' y' p q e = e ∙ sym (rw (found_foreign low (low_of P) x l w.0 x' p, found_foreign high (high_of P) y h w.1 y' q) refl)
 
   -- neighbours that are the pattern's own are passed, and those that are passed are the pattern's own
-  pub own_pass : OwnNeighbours P low high → Fine ≡ checked_by (neighbours_half P low high accepted)
+  pub own_pass : OwnNeighbours P low high → done ≡ answer_by (neighbours_half P low high accepted) tt
   unfolding neighbours_half
   own_pass o = sym (rw (none_foreign low (low_of P) (length P) o.low_own, none_foreign high (high_of P) (length P) o.high_own) refl)
 
-  pub passed_own : length P ≤ pattern_limit → length P ≤ length low → length P ≤ length high → Fine ≡ checked_by (neighbours_half P low high accepted) → OwnNeighbours P low high
+  pub passed_own : length P ≤ pattern_limit → length P ≤ length low → length P ≤ length high → done ≡ answer_by (neighbours_half P low high accepted) tt → OwnNeighbours P low high
   unfolding neighbours_half
   passed_own limit l h e =
-      let a = passed_at (lowest (foreign_at low (low_of P)) (length P)) (ForeignEntry Low) _ (fine_accepted (neighbours_half P low high accepted) e) in
+      let a = passed_at (lowest (foreign_at low (low_of P)) (length P)) (ForeignEntry Low) _ (ok_accepted (neighbours_half P low high accepted) tt e).0 in
       let b = passed_at (lowest (foreign_at high (high_of P)) (length P)) (ForeignEntry High) accepted a.1 in
       record {
         limit = limit;
@@ -123,12 +144,13 @@ module _ (P : List ℤ) (low high : List ℕ) where
 
 module _ (P : List ℤ) (wi wj : List ℕ) where
   -- by the witnesses written over two buffers
-  pub against-witnesses : (i j : List ℕ) {wi' wj' : List ℕ} {a b : ℕ} {c : Checked}
+  pub against-witnesses : (i j : List ℕ) {wi' wj' : List ℕ} {a b : Option ℕ} {c : Result (Unit {0}) Refusal}
       → (wi' ≡ over (witness_i_table P) i) × (wj' ≡ over (witness_j_table P) j)
-      → FirstDifference wi wi' (length P) a → FirstDifference wj wj' (length P) b
-      → c ≡ checked_by (in_turn WitnessI (below a (length P)) WitnessJ (below b (length P)) accepted) → c ≡ checked_by (witnesses_half P wi wj accepted)
+      → length P ≤ length wi → length P ≤ length wj → length P ≤ length wi' → length P ≤ length wj'
+      → a ≡ position differing (zip (take (length P) wi) wi') → b ≡ position differing (zip (take (length P) wj) wj')
+      → c ≡ answer_by (in_turn WitnessI (spot_of a) WitnessJ (spot_of b) accepted) tt → c ≡ answer_by (witnesses_half P wi wj accepted) tt
   unfolding witness_i_table witness_j_table witnesses_half
-  against-witnesses i j w p q e = e ∙ sym (rw (found_foreign wi (witness_i_of P) i w.0 p, found_foreign wj (witness_j_of P) j w.1 q) refl)
+  against-witnesses i j w x y x' y' p q e = e ∙ sym (rw (found_foreign wi (witness_i_of P) x i w.0 x' p, found_foreign wj (witness_j_of P) y j w.1 y' q) refl)
 
 -- ---- the row of four
 
@@ -137,13 +159,14 @@ module _ (P : List ℤ) (low high wi wj : List ℕ) where
   unfolding own_verdict neighbours_half witnesses_half
   both_halves = refl
 
-  pub neighbours_decide : {c : Checked} {why : Refusal} → c ≡ checked_by (neighbours_half P low high accepted) → c ≡ Refused why → c ≡ checked_by (own_verdict P low high wi wj)
-  neighbours_decide {why = why} e g =
-      g ∙ sym (ap checked_by (both_halves ∙ row_refuses (neighbours_half P low high) (neighbours_row P low high) (refused_why (neighbours_half P low high accepted) why (sym g ∙ e)) (witnesses_half P wi wj accepted)))
+  pub neighbours_decide : {why : Refusal} → unmet why ≡ answer_by (neighbours_half P low high accepted) tt → unmet why ≡ answer_by (own_verdict P low high wi wj) tt
+  neighbours_decide e =
+      sym (ap (λ v. answer_by v tt) (both_halves ∙ row_refuses (neighbours_half P low high) (neighbours_row P low high) (err_refused (neighbours_half P low high accepted) tt e) (witnesses_half P wi wj accepted)))
 
-  pub witnesses_decide : {c : Checked} → Fine ≡ checked_by (neighbours_half P low high accepted) → c ≡ checked_by (witnesses_half P wi wj accepted) → c ≡ checked_by (own_verdict P low high wi wj)
+  pub witnesses_decide : {c : Result (Unit {0}) Refusal} → done ≡ answer_by (neighbours_half P low high accepted) tt
+      → c ≡ answer_by (witnesses_half P wi wj accepted) tt → c ≡ answer_by (own_verdict P low high wi wj) tt
   witnesses_decide e g =
-      g ∙ sym (ap checked_by (both_halves ∙ row_passes (neighbours_half P low high) (neighbours_row P low high) (fine_accepted (neighbours_half P low high accepted) e) (witnesses_half P wi wj accepted)))
+      g ∙ sym (ap (λ v. answer_by v tt) (both_halves ∙ row_passes (neighbours_half P low high) (neighbours_row P low high) (ok_accepted (neighbours_half P low high accepted) tt e).0 (witnesses_half P wi wj accepted)))
 
   abbrev pub Own : List ℕ → (ℕ → Spot) → Type 0
   Own table own = (k : ℕ) → k < length P → get_or table k 0 ≡ entry (own k)

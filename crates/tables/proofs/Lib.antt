@@ -2,6 +2,7 @@
 pub mod SampleSteps
 pub mod LastNearest
 pub mod NearestByValue
+pub mod Values
 pub mod ClaimLaws
 pub mod Offsets
 pub mod OwnTables

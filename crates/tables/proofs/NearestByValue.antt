@@ -13,7 +13,7 @@ use lib.Signed.{le_z}
 use mir.Syntax.{w32}
 use mir.Val.{SFits, of_z}
 use borrow.Author.Tests.{ltb-true, ltb-false, eqb-true}
-use Rattle.order.specs.declared.relation.Relation.TheVariants.{Equal}
+use Rattle.std.specs.declared.cmp.Ordering.TheVariants.{Equal}
 use Rattle.order.specs.Relations.{alike}
 use Rattle.order.specs.Sizes.{at, entry}
 use Rattle.order.specs.Neighbours.{low_of, high_of}
@@ -21,7 +21,7 @@ use Rattle.order.proofs.Tests.{must_fail}
 use Rattle.order.proofs.Orders.{lt_z_not_le_z, rel_equal}
 use Rattle.order.proofs.Comparing.{equal_there_lem}
 use Rattle.order.proofs.Nearest.{upward, turned}
-use Rattle.tables.specs.Inside.Claims.{least, greatest, Outside, NoneWithin}
+use Rattle.tables.specs.Inside.Claims.{Outside, NoneWithin}
 use Rattle.tables.specs.Inside.NearValues.{on_side, later, nearest_value, NearestValues, LastEqual}
 use Rattle.tables.proofs.LastNearest.{le_z_antisym, last-nearest}
 use Rattle.tables.proofs.SampleSteps.{sample_least, sample_greatest}
@@ -39,13 +39,13 @@ value_more le edge P x n p q e = rw add-one (e ∙ ap₂ (later le) p q)
 
 -- ---- the last place that has it
 
-pub low_found : (P : List ℤ) (j : ℕ) {below above : ℤ} {r : ℕ} → NearestValues P j below above → LastEqual P j below r → r ≡ entry (low_of P j)
+pub low_found : {lo hi : ℤ} (P : List ℤ) (j : ℕ) {below above : ℤ} {r : ℕ} → NearestValues lo hi P j below above → LastEqual P j below r → r ≡ entry (low_of P j)
 unfolding low_of
-low_found P j n l = last-nearest upward le_z_antisym least P j (λ i h. sample_least (at P i) (n.samples i h)) n.low_value l
+low_found {lo} P j n l = last-nearest upward le_z_antisym lo P j (λ i h. (n.within i h).not_less) n.low_value l
 
-pub high_found : (P : List ℤ) (j : ℕ) {below above : ℤ} {r : ℕ} → NearestValues P j below above → LastEqual P j above r → r ≡ entry (high_of P j)
+pub high_found : {lo hi : ℤ} (P : List ℤ) (j : ℕ) {below above : ℤ} {r : ℕ} → NearestValues lo hi P j below above → LastEqual P j above r → r ≡ entry (high_of P j)
 unfolding high_of
-high_found P j n l = last-nearest (turned upward) (λ a b s t. le_z_antisym a b t s) greatest P j (λ i h. sample_greatest (at P i) (n.samples i h)) n.high_value l
+high_found {hi = hi} P j n l = last-nearest (turned upward) (λ a b s t. le_z_antisym a b t s) hi P j (λ i h. (n.within i h).not_greater) n.high_value l
 
 -- ---- stretches that v is not in, and the machine's words for a sample that it is not
 

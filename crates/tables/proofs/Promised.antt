@@ -6,20 +6,16 @@ use mathlib.Core.List.{List}
 use Prim.Native.Nat.{ℕ}
 use lib.IntN.{ℤ}
 use lib.ListN.{length}
+use Rattle.std.specs.Prelude.{Result}
 use Rattle.order.specs.Neighbours.{low_table, high_table}
 use Rattle.order.specs.Witnesses.{witness_i_table, witness_j_table}
 use Rattle.order.specs.Refusals.{Verdict, accepted, refused, prepare_verdict, own_verdict, verdict_number, verdict_place}
 use Rattle.order.specs.declared.refusal.Refusal.{Refusal}
-use Rattle.order.specs.Written.{after_verdict}
-use Rattle.sizes.specs.declared.answers.Checked.{Checked}
-use Rattle.sizes.specs.declared.answers.Checked.TheVariants.{Fine, Refused}
-use Rattle.tables.specs.declared.answers.Prepared.{Prepared}
-use Rattle.tables.specs.declared.answers.Prepared.TheVariants.{Done, Refused as NotPrepared}
-use Rattle.sizes.specs.Answers.{checked_number, checked_place, checked_by}
-use Rattle.tables.specs.Answers.{prepared_by}
+use Rattle.order.specs.Written.{over, after_verdict}
+use Rattle.order.specs.Answers.{answer_number, answer_place, answer_by}
+use Rattle.order.proofs.Answered.{done, unmet, numbered, placed, ok_accepted, err_refused}
 use Rattle.tables.specs.Inside.Asked.{TablesWritten}
-use Rattle.tables.specs.Promises.{PreparePromise, TablesPromise, own_tables_verdict}
-use Rattle.sizes.proofs.Verdicts.{fine_accepted, refused_why}
+use Rattle.tables.specs.Promises.{PreparePromise, neighbours_alone, NeighboursMade, TablesPromise, own_tables_verdict}
 use Rattle.sizes.proofs.VerdictRows.{sizes_through, sizes_stay}
 
 -- ---- preparation
@@ -28,13 +24,13 @@ module _ (P : List ℤ) (low high wi wj : List ℕ) where
   abbrev verdict : Verdict
   verdict = prepare_verdict P (length low) (length high) (length wi) (length wj)
 
-  pub prepare_refused : (why : Refusal) → Refused why ≡ checked_by (prepare_verdict P (length low) (length high) (length wi) (length wj)) →
-      PreparePromise P low high wi wj (NotPrepared why) low high wi wj
+  pub prepare_refused : (why : Refusal) → unmet why ≡ answer_by (prepare_verdict P (length low) (length high) (length wi) (length wj)) tt →
+      PreparePromise P low high wi wj (unmet why) low high wi wj
   prepare_refused why e =
       record {
         number = ap verdict_number (sym v);
         place = ap verdict_place (sym v);
-        answer = ap prepared_by (sym v);
+        answer = ap (λ w. answer_by w tt) (sym v);
         low_after = ap (λ w. after_verdict w (low_table P) low) (sym v);
         high_after = ap (λ w. after_verdict w (high_table P) high) (sym v);
         witness_i_after = ap (λ w. after_verdict w (witness_i_table P) wi) (sym v);
@@ -42,17 +38,17 @@ module _ (P : List ℤ) (low high wi wj : List ℕ) where
       }
     where
       v : verdict ≡ refused why
-      v = refused_why verdict why e
+      v = err_refused verdict tt e
 
   pub prepare_done : {low' high' wi' wj' : List ℕ} →
-      Fine ≡ checked_by (prepare_verdict P (length low) (length high) (length wi) (length wj)) →
+      done ≡ answer_by (prepare_verdict P (length low) (length high) (length wi) (length wj)) tt →
       TablesWritten P low high wi wj low' high' wi' wj' →
-      PreparePromise P low high wi wj Done low' high' wi' wj'
+      PreparePromise P low high wi wj done low' high' wi' wj'
   prepare_done e t =
       record {
         number = ap verdict_number (sym v);
         place = ap verdict_place (sym v);
-        answer = ap prepared_by (sym v);
+        answer = ap (λ w. answer_by w tt) (sym v);
         low_after = t.low_written ∙ ap (λ w. after_verdict w (low_table P) low) (sym v);
         high_after = t.high_written ∙ ap (λ w. after_verdict w (high_table P) high) (sym v);
         witness_i_after = t.witness_i_written ∙ ap (λ w. after_verdict w (witness_i_table P) wi) (sym v);
@@ -60,9 +56,9 @@ module _ (P : List ℤ) (low high wi wj : List ℕ) where
       }
     where
       v : verdict ≡ accepted
-      v = fine_accepted verdict e
+      v = (ok_accepted verdict tt e).0
 
-  pub prepare_only_answer : (r s : Prepared) (low₁ high₁ wi₁ wj₁ low₂ high₂ wi₂ wj₂ : List ℕ) →
+  pub prepare_only_answer : (r s : Result (Unit {0}) Refusal) (low₁ high₁ wi₁ wj₁ low₂ high₂ wi₂ wj₂ : List ℕ) →
       PreparePromise P low high wi wj r low₁ high₁ wi₁ wj₁ → PreparePromise P low high wi wj s low₂ high₂ wi₂ wj₂ →
       (r ≡ s) × (low₁ ≡ low₂) × (high₁ ≡ high₂) × (wi₁ ≡ wi₂) × (wj₁ ≡ wj₂)
   prepare_only_answer r s low₁ high₁ wi₁ wj₁ low₂ high₂ wi₂ wj₂ p q = (
@@ -75,34 +71,56 @@ module _ (P : List ℤ) (low high wi wj : List ℕ) where
 
 -- ---- the check of the tables
 
-checked_number_lem : (w : Verdict) → checked_number (checked_by w) ≡ verdict_number w
-checked_number_lem accepted = refl
-checked_number_lem (refused r) = refl
-
-checked_place_lem : (w : Verdict) → checked_place (checked_by w) ≡ verdict_place w
-checked_place_lem accepted = refl
-checked_place_lem (refused r) = refl
-
 module _ (P : List ℤ) (low high wi wj : List ℕ) where
-  tables_promised : {r : Checked} → r ≡ checked_by (own_tables_verdict P low high wi wj) → TablesPromise P low high wi wj r
+  tables_promised : {r : Result (Unit {0}) Refusal} → r ≡ answer_by (own_tables_verdict P low high wi wj) tt → TablesPromise P low high wi wj r
   tables_promised e =
       record {
-        number = ap checked_number e ∙ checked_number_lem (own_tables_verdict P low high wi wj);
-        place = ap checked_place e ∙ checked_place_lem (own_tables_verdict P low high wi wj);
+        number = ap answer_number e ∙ numbered (own_tables_verdict P low high wi wj) tt;
+        place = ap answer_place e ∙ placed (own_tables_verdict P low high wi wj) tt;
         answer = e;
       }
 
-  pub tables-refused : {c : Checked} (why : Refusal) → c ≡ checked_by (prepare_verdict P (length low) (length high) (length wi) (length wj)) → c ≡ Refused why →
-      TablesPromise P low high wi wj c
+  pub tables-refused : (why : Refusal) → unmet why ≡ answer_by (prepare_verdict P (length low) (length high) (length wi) (length wj)) tt →
+      TablesPromise P low high wi wj (unmet why)
   unfolding own_tables_verdict
-  tables-refused why e g =
-      tables_promised (g ∙ ap checked_by (sym (sizes_stay P (length low) (length high) (length wi) (length wj) why (sym g ∙ e) (own_verdict P low high wi wj))))
+  tables-refused why e =
+      tables_promised (ap (λ w. answer_by w tt) (sym (sizes_stay P (length low) (length high) (length wi) (length wj) why e (own_verdict P low high wi wj))))
 
-  pub tables_compared : {c : Checked} → Fine ≡ checked_by (prepare_verdict P (length low) (length high) (length wi) (length wj)) →
-      c ≡ checked_by (own_verdict P low high wi wj) → TablesPromise P low high wi wj c
+  pub tables_compared : {c : Result (Unit {0}) Refusal} → done ≡ answer_by (prepare_verdict P (length low) (length high) (length wi) (length wj)) tt →
+      c ≡ answer_by (own_verdict P low high wi wj) tt → TablesPromise P low high wi wj c
   unfolding own_tables_verdict
   tables_compared e f =
-      tables_promised (f ∙ ap checked_by (sym (sizes_through P (length low) (length high) (length wi) (length wj) e (own_verdict P low high wi wj))))
+      tables_promised (f ∙ ap (λ w. answer_by w tt) (sym (sizes_through P (length low) (length high) (length wi) (length wj) e (own_verdict P low high wi wj))))
 
-  pub tables_only_answer : {r s : Checked} → TablesPromise P low high wi wj r → TablesPromise P low high wi wj s → r ≡ s
+  pub tables_only_answer : {r s : Result (Unit {0}) Refusal} → TablesPromise P low high wi wj r → TablesPromise P low high wi wj s → r ≡ s
   tables_only_answer p q = p.answer ∙ sym q.answer
+
+-- ---- preparation of the neighbours alone
+
+module _ (P : List ℤ) (low high : List ℕ) where
+  abbrev alone : Verdict
+  alone = neighbours_alone (length P) (length low) (length high)
+
+  made_by : {v : Verdict} {r : Result (Unit {0}) Refusal} {low' high' : List ℕ} → alone ≡ v
+      → r ≡ answer_by v tt → answer_number r ≡ verdict_number v → answer_place r ≡ verdict_place v
+      → low' ≡ after_verdict v (low_table P) low → high' ≡ after_verdict v (high_table P) high → NeighboursMade P low high r low' high'
+  made_by v a n p l h =
+      record {
+        number = n ∙ ap verdict_number (sym v);
+        place = p ∙ ap verdict_place (sym v);
+        answer = a ∙ ap (λ w. answer_by w tt) (sym v);
+        low_after = l ∙ ap (λ w. after_verdict w (low_table P) low) (sym v);
+        high_after = h ∙ ap (λ w. after_verdict w (high_table P) high) (sym v);
+      }
+
+  pub alone_refused : (why : Refusal) → unmet why ≡ answer_by alone tt → NeighboursMade P low high (unmet why) low high
+  alone_refused why e = made_by (err_refused alone tt e) refl refl refl refl refl
+
+  pub alone_done : {low' high' : List ℕ} → done ≡ answer_by alone tt → low' ≡ over (low_table P) low → high' ≡ over (high_table P) high
+      → NeighboursMade P low high done low' high'
+  alone_done e l h = made_by (ok_accepted alone tt e).0 refl refl refl l h
+
+  -- no second answer
+  pub neighbours_made_only_answer : {r s : Result (Unit {0}) Refusal} {low₁ high₁ low₂ high₂ : List ℕ} → NeighboursMade P low high r low₁ high₁ → NeighboursMade P low high s low₂ high₂
+      → (r ≡ s) × (low₁ ≡ low₂) × (high₁ ≡ high₂)
+  neighbours_made_only_answer p q = (p.answer ∙ sym q.answer, p.low_after ∙ sym q.low_after, p.high_after ∙ sym q.high_after)

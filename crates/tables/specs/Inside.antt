@@ -3,3 +3,4 @@ pub mod Asked
 pub mod Claims
 pub mod Halves
 pub mod NearValues
+pub mod Orders

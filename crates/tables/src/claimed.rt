@@ -4,116 +4,76 @@
 // one of them stands after it. Each place goes once over the earlier ones, m² / 2 steps in all, in loops with no test inside, which
 // the compiler turns into steps of four samples. "No" only means that some entry is not shown to be right. No array is kept.
 
-ghost use Rattle.std.specs.Prelude.{◌≡◌, true, ◌<◌, ◌≤◌, length};
+ghost use Rattle.std.specs.Prelude.{◌≡◌, true, ◌<◌, ◌≤◌, length, IfSome};
 ghost use Rattle.order.specs.Sizes.{pattern_limit};
 ghost use Rattle.tables.specs.Inside.Asked.{OwnNeighbours};
-ghost use Rattle.tables.specs.Inside.Claims.{Outside, NoneWithin, Floor, Ceiling, NoneBetween, OwnEntries};
+ghost use Rattle.tables.specs.Inside.Claims.{Floor, Ceiling, NoneBetween, OwnEntries};
 
+use crate::neighbours::none_within;
 use order::NONE;
-use words::{larger, smaller, wide16};
-
-// The least and the greatest sample there can be: limits that nothing lies beyond.
-pub(crate) const LEAST: i32 = -2147483648;
-
-pub(crate) const GREATEST: i32 = 2147483647;
-
-// Whether a sample lies below lo or above hi.
-fn outside(x: i32, lo: i32, hi: i32) -> bool
-    ensures { result ≡ true → Outside lo hi x }
-{
-    (x < lo) | (hi < x)
-}
-
-// Whether none of the samples at the places from..to lies from lo to hi, both counted in. It looks at all of them even after one that
-// does: a loop that could end early would take them one by one.
-pub(crate) fn none_within(pattern: &[i32], from: usize, to: usize, lo: i32, hi: i32) -> bool
-    requires { to ≤ length pattern.now }
-    ensures { result ≡ true → NoneWithin pattern.now from to lo hi }
-{
-    let mut clear = true;
-    for i in from..to {
-        clear = clear & outside(pattern[i], lo, hi);
-    }
-    clear
-}
 
 // Where the samples begin that a claimed neighbour forbids. Up to the neighbour that is the next value beyond its own, since an equal
 // sample may stand there; from `start` on, the place after it, it is its own value. Where no neighbour is claimed all is forbidden.
 #[derive(Clone, Copy)]
 struct Limit {
-    fits: bool,
     start: usize,
     before: i32,
     after: i32,
 }
 
-// What the low neighbour l, claimed of place j, forbids from below. It doesn't fit if it is no earlier place with a lower sample; an
-// equal one would be both neighbours. One more than a sample that has a greater one beside it is a sample.
-fn floor(pattern: &[i32], j: usize, l: u16) -> Limit
+// What the low neighbour l, claimed of place j, forbids from below. There is no such limit if it is no earlier place with a lower sample;
+// an equal one would be both neighbours. One more than a sample that has a greater one beside it is a sample.
+fn floor(pattern: &[i32], j: usize, l: u16) -> Option<Limit>
     requires { (j < length pattern.now) × (length pattern.now ≤ pattern_limit) }
-    ensures { result.fits ≡ true → Floor pattern.now j l result.start result.before result.after }
+    ensures { IfSome result (λ r. Floor pattern.now j l r.start r.before r.after) }
 {
     let x = pattern[j];
     if l == NONE {
-        return Limit {
-            fits: true,
+        return Some(Limit {
             start: 0,
-            before: LEAST,
-            after: LEAST,
-        };
+            before: i32::MIN,
+            after: i32::MIN,
+        });
     }
-    let at = wide16(l);
+    let at = usize::from(l);
     if at < j {
         let y = pattern[at];
         if y < x {
-            return Limit {
-                fits: true,
+            return Some(Limit {
                 start: at + 1,
                 before: y + 1,
                 after: y,
-            };
+            });
         }
     }
-    Limit {
-        fits: false,
-        start: 0,
-        before: LEAST,
-        after: LEAST,
-    }
+    None
 }
 
-// The same of the high neighbour, from above.
-fn ceiling(pattern: &[i32], j: usize, h: u16) -> Limit
+// The same of the high neighbour, from above. Two functions: one for both would take its test, its step and its edge as parameters.
+fn ceiling(pattern: &[i32], j: usize, h: u16) -> Option<Limit>
     requires { (j < length pattern.now) × (length pattern.now ≤ pattern_limit) }
-    ensures { result.fits ≡ true → Ceiling pattern.now j h result.start result.before result.after }
+    ensures { IfSome result (λ r. Ceiling pattern.now j h r.start r.before r.after) }
 {
     let x = pattern[j];
     if h == NONE {
-        return Limit {
-            fits: true,
+        return Some(Limit {
             start: 0,
-            before: GREATEST,
-            after: GREATEST,
-        };
+            before: i32::MAX,
+            after: i32::MAX,
+        });
     }
-    let at = wide16(h);
+    let at = usize::from(h);
     if at < j {
         let y = pattern[at];
         if x < y {
-            return Limit {
-                fits: true,
+            return Some(Limit {
                 start: at + 1,
                 before: y - 1,
                 after: y,
-            };
+            });
         }
     }
-    Limit {
-        fits: false,
-        start: 0,
-        before: GREATEST,
-        after: GREATEST,
-    }
+    None
 }
 
 // Whether no sample before place j lies between the limits: up to the first neighbour, from one to the other, of which one range is
@@ -124,10 +84,10 @@ fn none_between(pattern: &[i32], j: usize, below: Limit, above: Limit) -> bool
 {
     let low = below.start;
     let high = above.start;
-    none_within(pattern, 0, smaller(low, high), below.before, above.before)
+    none_within(pattern, 0, low.min(high), below.before, above.before)
         & none_within(pattern, low, high, below.after, above.before)
         & none_within(pattern, high, low, below.before, above.after)
-        & none_within(pattern, larger(low, high), j, below.after, above.after)
+        & none_within(pattern, low.max(high), j, below.after, above.after)
 }
 
 // Whether place k is both neighbours of place j: an earlier equal sample with no other after it; at place 0 there is none.
@@ -138,7 +98,7 @@ fn equal_fits(pattern: &[i32], j: usize, k: u16) -> bool
     if k == NONE {
         return j == 0;
     }
-    let at = wide16(k);
+    let at = usize::from(k);
     if at < j {
         let x = pattern[at];
         return (x == pattern[j]) & none_within(pattern, at + 1, j, x, x);
@@ -154,15 +114,13 @@ fn place_fits(pattern: &[i32], j: usize, l: u16, h: u16) -> bool
     if l == h {
         return equal_fits(pattern, j, l);
     }
-    let below = floor(pattern, j, l);
-    let above = ceiling(pattern, j, h);
-    if below.fits & above.fits {
-        return none_between(pattern, j, below, above);
+    match (floor(pattern, j, l), ceiling(pattern, j, h)) {
+        (Some(below), Some(above)) => none_between(pattern, j, below, above),
+        _ => false,
     }
-    false
 }
 
-// Whether the tables are shown to hold the pattern's own neighbours.
+// Whether the tables are shown to hold the pattern's own neighbours. The loop counts, since a place is looked at by its number too.
 pub(crate) fn neighbours_fit(pattern: &[i32], low: &[u16], high: &[u16]) -> bool
     requires { (length pattern.now ≤ length low.now) × (length pattern.now ≤ length high.now) × (length pattern.now ≤ pattern_limit) }
     ensures { result ≡ true → OwnNeighbours pattern.now low.now high.now }

@@ -5,13 +5,13 @@
 
 #![tactic(auto)]
 
-mod answers;
 mod claimed;
 mod neighbours;
 mod own_tables;
 mod preparation;
+mod sample;
 mod witnesses;
 
-pub use answers::Prepared;
 pub use own_tables::check_tables;
-pub use preparation::prepare;
+pub use preparation::{prepare, prepare_neighbours};
+pub use sample::Sample;

@@ -1,4 +1,4 @@
-// Numbers and bytes: how wide a number is, numbers of two and of four bytes, and lists to and from bytes.
+// Numbers and bytes: numbers of two and of four bytes, and lists to and from bytes.
 //
 // Follows docs/RULES.md, "Sizes", "Recordings" and "The C entry points", Entries and Left-over bytes. Every call answers every length:
 // a list and a buffer hand over as many whole entries as both sides have, and all else stays as it was. A turn an entry, which the
@@ -8,8 +8,6 @@
 
 mod lists;
 mod numbers;
-mod widths;
 
 pub use lists::{put_entries, put_samples, put_words, take_entries, take_samples};
-pub use numbers::{from_bits, to_bits, word_at, word_of};
-pub use widths::{larger, smaller, wide16, wide32};
+pub use numbers::word_at;

@@ -1,9 +1,10 @@
 -- What the functions inside this crate ask of their callers, part by part.
 use Rattle.std.specs.Prelude.{ℕ, ◌+◌, ◌≤◌, ◌<◌, ◌≡◌, List, true, ℤ, length}
-use Rattle.order.specs.Sizes.{pattern_limit, at, trace_limit, windows_of}
+use Rattle.order.specs.Sizes.{at}
 use Rattle.order.specs.Relations.{rel}
 use Rattle.order.specs.Lost.{is_lost}
 use Rattle.stitches.specs.Inside.{FreeWithin}
+use Rattle.duels.specs.declared.codes.Codes.{Codes}
 use Rattle.duels.specs.Inside.Codes.{Coded}
 
 -- a duel of window y with the one a before it, by the witness (i, j)
@@ -15,20 +16,10 @@ pub record Duelable (P T : List ℤ) (y a i j : ℕ) : Type 0 where
   pub differs : rel (at P i) (at P j) ≡ rel (at P (a + i)) (at P (a + j)) → ⊥
 
 -- window x and a later window y of the trace
-pub record Meetable (P : List ℤ) (wi wj olders newers : List ℕ) (T : List ℤ) (x y : ℕ) : Type 0 where
-  pub i_long : length P ≤ length wi
-  pub j_long : length P ≤ length wj
-  pub coded : Coded P wi wj olders newers (length P)
+pub record Meetable (P : List ℤ) (wi wj : List ℕ) (codes : List Codes) (T : List ℤ) (x y : ℕ) : Type 0 where
+  pub coded : Coded P wi wj codes (length P)
   pub later : x < y
   pub inside : y + length P ≤ length T
-
--- a trace by these tables, and a buffer with room for all of its windows
-pub record Arriving (P : List ℤ) (wi wj : List ℕ) (T : List ℤ) (room : ℕ) : Type 0 where
-  pub limit : length P ≤ pattern_limit
-  pub i_long : length P ≤ length wi
-  pub j_long : length P ≤ length wj
-  pub trace : length T ≤ trace_limit
-  pub enough : windows_of (length P) (length T) ≤ room
 
 -- the first lost stitch from a sample on, or the trace's end
 pub record LostFrom (T : List ℤ) (from end : ℕ) : Type 0 where

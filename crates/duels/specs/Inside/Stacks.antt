@@ -1,5 +1,5 @@
 -- A buffer as a stack, and what the duels leave in it.
-use Rattle.std.specs.Prelude.{ℕ, zero, suc, ◌+◌, ◌-◌, ◌≤◌, ◌<◌, ◌≡◌, List, [], ◌∷◌, reverse, Bool, true, false, not, ℤ, length, get_or, drop, set}
+use Rattle.std.specs.Prelude.{ℕ, zero, suc, ◌+◌, ◌-◌, ◌≤◌, ◌<◌, ◌≡◌, List, [], ◌∷◌, reverse, Bool, true, false, not, ℤ, length, get_or, drop, set, Option, None, Some, Result, Ok}
 use Rattle.order.specs.declared.steps.Meeting.{Meeting}
 use Rattle.order.specs.declared.steps.Meeting.TheVariants.{Agree}
 use Rattle.order.specs.Sizes.{lowest, those, windows_of}
@@ -7,9 +7,10 @@ use Rattle.order.specs.Duels.{stacked, arrive_all_lem, is_struck, struck}
 use Rattle.order.specs.Refusals.{accepted}
 use Rattle.order.specs.Written.{over, filled}
 use Rattle.stitches.specs.Inside.{FreeWithin}
+use Rattle.duels.specs.declared.arrivals.Arrived.{Arrived}
+use Rattle.duels.specs.declared.codes.Codes.{Codes}
 use Rattle.duels.specs.declared.answers.Duelled.{Duelled}
-use Rattle.duels.specs.declared.answers.Duels.{Duels}
-use Rattle.duels.specs.declared.answers.Duels.TheVariants.{Done}
+use Rattle.duels.specs.declared.answers.Unfought.{Unfought}
 use Rattle.duels.specs.DuelPromise.{untold_at, meets_by, stack_by, duels_by, after_duels, duelled_of}
 use Rattle.duels.specs.Inside.Codes.{Coded}
 
@@ -35,8 +36,8 @@ abbrev pub enters : List ℤ → List ℤ → ℕ → Bool
 enters P T x = not (is_struck P T x)
 
 -- the same of the trace's windows, by these tables
-abbrev pub ArrivedOf : List ℤ → List ℕ → List ℕ → List ℤ → List ℕ → ℕ → ℕ → ℕ → ℕ → Type 0
-ArrivedOf P wi wj T l y a k b = Standing (meets_by P wi wj T) (enters P T) l y a k b
+abbrev pub ArrivedOf : List ℤ → List ℕ → List ℕ → List ℤ → List ℕ → ℕ → Arrived → Type 0
+ArrivedOf P wi wj T l y w = Standing (meets_by P wi wj T) (enters P T) l y w.windows w.kept w.both
 
 -- a buffer of which only the first n entries were written
 pub record SameBehind (n : ℕ) (before after : List ℕ) : Type 0 where
@@ -66,10 +67,10 @@ pub record AllFree (T : List ℤ) (windows : ℕ) (before after : List ℕ) : Ty
   pub free : FreeWithin T 0 (length T)
   pub pushed : after ≡ pushed_run before 0 0 windows
 
--- how windows meet: all agree, or the codes of their offset tell
-abbrev pub Way : Bool → List ℤ → List ℕ → List ℕ → List ℕ → List ℕ → List ℤ → Type 0
-Way true P wi wj olders newers T = AllAgree (meets_by P wi wj T)
-Way false P wi wj olders newers T = Coded P wi wj olders newers (length P)
+-- how windows meet: the codes of their offset tell, or there are none and all agree
+pub record Way {A : Type 0} (P : List ℤ) (wi wj : List ℕ) (T : List ℤ) (codes : Option A) (now : A → List Codes) : Type 0 where
+  pub agreeing : codes ≡ None → AllAgree (meets_by P wi wj T)
+  pub coded : (c : A) → codes ≡ Some c → Coded P wi wj (now c) (length P)
 
 -- all have arrived, and "unused" follows the kept windows
 pub record KeptOf (P : List ℤ) (wi wj : List ℕ) (T : List ℤ) (before after : List ℕ) (d : Duelled) : Type 0 where
@@ -78,7 +79,7 @@ pub record KeptOf (P : List ℤ) (wi wj : List ℕ) (T : List ℤ) (before after
   pub written : after ≡ over (filled (reverse (stack_by P wi wj T).kept) (windows_of (length P) (length T))) before
 
 -- the same, or the lowest offset is told whose entries name a place and tell no witness
-pub record Fought (P : List ℤ) (wi wj : List ℕ) (T : List ℤ) (before after : List ℕ) (r : Duels) : Type 0 where
+pub record Fought (P : List ℤ) (wi wj : List ℕ) (T : List ℤ) (before after : List ℕ) (r : Result Duelled Unfought) : Type 0 where
   pub answer : r ≡ duels_by accepted (lowest (untold_at P wi wj) (length P)) (duelled_of (stack_by P wi wj T) (struck P T))
   pub written : after ≡ after_duels r (filled (reverse (stack_by P wi wj T).kept) (windows_of (length P) (length T))) before
-  pub bound : (d : Duelled) → r ≡ Done d → d.fought + d.kept + d.struck ≤ windows_of (length P) (length T)
+  pub bound : (d : Duelled) → r ≡ Ok d → d.fought + d.kept + d.struck ≤ windows_of (length P) (length T)

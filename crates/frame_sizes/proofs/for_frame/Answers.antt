@@ -1,7 +1,6 @@
 -- `for_frame` meets its contract: the conditions one after the other.
-use mathlib.Core.Path.{refl, sym, ◌∙◌, ap₂}
+use mathlib.Core.Path.{refl, sym, ◌∙◌}
 use native.Mathlib.Omega.{arith}
-use Rattle.frame_sizes.specs.declared.Tries.TheVariants.{At}
 use Rattle.frame_sizes.proofs.FrameRows.{promised, zero_size, large_size, narrow_pitch, short-frame, short-places, all_fit, no_zeros, none_large, sides_fit, few_tried, places-are}
 use Rattle.frame_sizes.proofs.for_frame.Goals as goal
 
@@ -61,4 +60,4 @@ returns c =
     let columns = c.tried-columns.ensures in
     let p = places-are _ _ _ _ rows columns in
     let enough = c.if-positions-rows.false in
-    promised _ _ _ _ _ _ _ _ (all_fit _ _ _ _ _ _ _ _ (sym c.is_zero.ensures ∙ c.if-is_zero.false) (sym c.is_large.ensures ∙ c.if-is_large.false) c.if-pitch-width.false (sym c.is_short.ensures ∙ c.if-is_short.false) (omega arith)) (ap₂ At rows columns)
+    promised _ _ _ _ _ _ _ _ (all_fit _ _ _ _ _ _ _ _ (sym c.is_zero.ensures ∙ c.if-is_zero.false) (sym c.is_large.ensures ∙ c.if-is_large.false) c.if-pitch-width.false (sym c.is_short.ensures ∙ c.if-is_short.false) (omega arith)) (rw (rows, columns) refl)

@@ -2,8 +2,8 @@
 use Rattle.host_recordings.proofs.HandedOver.{write_refused, write_done}
 use Rattle.host_recordings.proofs.write.Goals as goal
 
-pub returns-in-Refused : goal.returns-in-Refused
-returns-in-Refused c = write_refused _ _ _ _ c.in-Refused.is c.write.ensures c.result_of.ensures
+pub returns-in-Err : goal.returns-in-Err
+returns-in-Err c = write_refused _ _ _ _ c.in-Err.is c.write.ensures c.result_of.ensures
 
-pub returns-in-Done : goal.returns-in-Done
-returns-in-Done c = write_done _ _ _ _ c.in-Done.is c.write.ensures
+pub returns-in-Ok : goal.returns-in-Ok
+returns-in-Ok c = write_done _ _ _ _ c.in-Ok.is c.write.ensures

@@ -3,7 +3,7 @@ use Rattle.std.specs.Prelude.{ℕ, ◌+◌, ◌≤◌, ◌<◌, ◌≡◌, List,
 use Rattle.order.specs.Sizes.{entry, pattern_limit, trace_limit, windows_of}
 use Rattle.order.specs.Witnesses.{witness_i_of, witness_j_of}
 use Rattle.order.specs.Written.{over, counts_of, filled}
-use Rattle.order.specs.declared.relation.Relation.{Relation}
+use Rattle.std.specs.declared.cmp.Ordering.{Ordering}
 use Rattle.order.specs.Duels.{struck, duels, survivors}
 use Rattle.order.specs.Sweeping.{positions}
 use Rattle.order.specs.declared.steps.Counts.{Counts}
@@ -45,7 +45,7 @@ abbrev pub spent_limit : ℕ
 spent_limit = 262144
 
 -- survivor x of a steady pattern, from a sample of it on, with so much spent before
-pub record Steadily (P T : List ℤ) (way : Relation) (x from before : ℕ) : Type 0 where
+pub record Steadily (P T : List ℤ) (way : Ordering) (x from before : ℕ) : Type 0 where
   pub steady : Steady P way
   pub trace : length T ≤ trace_limit
   pub inside : x + length P ≤ length T
@@ -66,7 +66,7 @@ pub record Sweeps (P : List ℤ) (low high : List ℕ) (T : List ℤ) (buffer : 
   pub room : kept ≤ length before
 
 -- a sweep of them for a steady pattern
-pub record SteadySweep (P T : List ℤ) (way : Relation) (buffer : List ℕ) (kept : ℕ) (before : List ℕ) : Type 0 where
+pub record SteadySweep (P T : List ℤ) (way : Ordering) (buffer : List ℕ) (kept : ℕ) (before : List ℕ) : Type 0 where
   pub steady : Steady P way
   pub rows : Kept P T buffer kept
   pub room : kept ≤ length before

@@ -1,6 +1,6 @@
 -- Blocks of the sweep for a steady pattern: survivors that start one after the other, of which each has its last place alone left.
 use Rattle.std.specs.Prelude.{ℕ, zero, suc, ◌+◌, ◌-◌, ◌*◌, ◌≤◌, ◌<◌, ◌≡◌, Bool, true, List, ℤ, length, get_or, drop, set}
-use Rattle.order.specs.declared.relation.Relation.{Relation}
+use Rattle.std.specs.declared.cmp.Ordering.{Ordering}
 use Rattle.order.specs.declared.steps.Tested.TheVariants.{Passed}
 use Rattle.order.specs.PlaceTest.{test_of}
 use Rattle.order.specs.EntryTest.{told}
@@ -10,7 +10,7 @@ abbrev pub block : ℕ
 block = 64
 
 -- each of the count samples after sample e compares with the one before it as `way` tells
-pub record GoesOn (T : List ℤ) (e count : ℕ) (way : Relation) : Type 0 where
+pub record GoesOn (T : List ℤ) (e count : ℕ) (way : Ordering) : Type 0 where
   pub each : (k : ℕ) → k < count → told T (e + 1 + k) (e + k) way ≡ true
 
 -- so many survivors from survivor k on, the first of them window x, start one after the other, and the tests have come to the first's

@@ -7,18 +7,17 @@ use Rattle.stitches.proofs.Looks.{lost-told, lost_below, none_below, one_below, 
 use borrow.Author.Rules.{rules}
 use Rattle.stitches.proofs.holds_lost.Goals as goal
 
-pub loop-i-init : goal.loop-i-init
-loop-i-init c = (sym (none_below _), omega arith)
+pub loop-sample-init : goal.loop-sample-init
+loop-sample-init c = sym (none_below _)
 
-pub loop-i-preserved : goal.loop-i-preserved
-loop-i-preserved c =
-    let l = c.loop-i in
-    (ap₂ ◌||◌ l.invariant.0 (lost-told _ (search rules)) ∙ sym (one_below _ l.i), omega arith)
+pub loop-sample-preserved : goal.loop-sample-preserved
+loop-sample-preserved c =
+    let l = c.loop-sample in
+    ap₂ ◌||◌ l.invariant (lost-told _ (search rules)) ∙ sym (one_below _ l.sample-index)
 
 pub returns : goal.returns
 returns c =
-    let l = c.loop-i in
-    let end = c.loop-i-test.false in
-    let within = l.invariant.1 in
-    let all : l.i ≡ length c.args.samples.now = omega arith in
-    l.invariant.0 ∙ ap (lost_below _) all ∙ all_below_lem _
+    let l = c.loop-sample in
+    let end = c.loop-sample-test.false in
+    let all : l.sample-index ≡ length c.args.samples.now = omega arith in
+    l.invariant ∙ ap (lost_below _) all ∙ all_below_lem _

@@ -44,9 +44,3 @@ pub record Stretched (P : List ℤ) (a start end : ℕ) : Type 0 where
   pub reached : start ≤ a
   pub within : end ≤ length P
   pub in_order : first_fail P (drop start P) (end - start) ≡ none
-
--- r is the lowest entry below m at which two tables differ, or m
-pub record FirstDifference (table own : List ℕ) (m r : ℕ) : Type 0 where
-  pub within : r ≤ m
-  pub differs : r < m → get_or table r 0 ≡ get_or own r 0 → ⊥
-  pub alike_before : (k : ℕ) → k < r → get_or table k 0 ≡ get_or own k 0

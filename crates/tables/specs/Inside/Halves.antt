@@ -1,5 +1,5 @@
 -- The row of the four tables in two halves, each of two tables in turn.
-use Rattle.std.specs.Prelude.{ℕ, List, cond, ltb, ℤ, length}
+use Rattle.std.specs.Prelude.{ℕ, List, ℤ, length, Bool, not, ◌==◌, Option, Some, None}
 use Rattle.order.specs.declared.refusal.Table.{Table}
 use Rattle.order.specs.declared.refusal.Table.TheVariants.{Low, High, WitnessI, WitnessJ}
 use Rattle.order.specs.declared.refusal.Refusal.TheVariants.{ForeignEntry}
@@ -8,9 +8,14 @@ use Rattle.order.specs.Neighbours.{low_of, high_of}
 use Rattle.order.specs.Witnesses.{witness_i_of, witness_j_of}
 use Rattle.order.specs.Refusals.{Verdict, refuse_at, foreign_at}
 
--- the place r, if it lies below m
-abbrev pub below : ℕ → ℕ → Spot
-below r m = cond (ltb r m) (place r) none
+-- two entries that differ
+abbrev pub differing : (ℕ × ℕ) → Bool
+differing p = not (p.0 == p.1)
+
+-- the place that an answer tells, if any
+abbrev pub spot_of : Option ℕ → Spot
+spot_of None = none
+spot_of (Some k) = place k
 
 -- one table and then another, each with the entry at which it is foreign
 abbrev pub in_turn : Table → Spot → Table → Spot → Verdict → Verdict

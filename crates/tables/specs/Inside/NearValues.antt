@@ -1,10 +1,8 @@
 -- What the functions that find a place's neighbours tell each other: first the neighbour's value, then the last place that has it.
-use Rattle.std.specs.Prelude.{ℕ, zero, suc, ◌+◌, ◌≤◌, ◌<◌, ◌≡◌, List, Bool, cond, ℤ}
+use Rattle.std.specs.Prelude.{ℕ, zero, suc, ◌+◌, ◌≤◌, ◌<◌, ◌≡◌, List, Bool, true, cond, ℤ}
 use Rattle.std.specs.Int.Signed.{le_z}
-use Rattle.std.specs.Int.{w32}
-use Rattle.std.proofs.Common.{SFits}
 use Rattle.order.specs.Sizes.{Spot, none, place, at, entry}
-use Rattle.tables.specs.Inside.Claims.{least, greatest, NoneWithin}
+use Rattle.tables.specs.Inside.Claims.{NoneWithin}
 
 -- y where it is on le's side of x; otherwise edge, the sample that comes before all others
 abbrev pub on_side : (ℤ → ℤ → Bool) → ℤ → ℤ → ℤ → ℤ
@@ -19,11 +17,16 @@ unfoldable pub nearest_value : (ℤ → ℤ → Bool) → ℤ → List ℤ → �
 nearest_value le edge P x zero = edge
 nearest_value le edge P x (suc n) = later le (nearest_value le edge P x n) (on_side le edge x (at P n))
 
--- the values nearest to place j's; up to there all are samples
-pub record NearestValues (P : List ℤ) (j : ℕ) (below above : ℤ) : Type 0 where
-  pub samples : (i : ℕ) → i ≤ j → SFits w32 (at P i)
-  pub low_value : below ≡ nearest_value le_z least P (at P j) j
-  pub high_value : above ≡ nearest_value (λ a b. le_z b a) greatest P (at P j) j
+-- x lies from lo to hi
+pub record Within (lo hi x : ℤ) : Type 0 where
+  pub not_less : le_z lo x ≡ true
+  pub not_greater : le_z x hi ≡ true
+
+-- the values nearest to place j's; up to there no sample lies beyond lo and hi, which stand for no neighbour
+pub record NearestValues (lo hi : ℤ) (P : List ℤ) (j : ℕ) (below above : ℤ) : Type 0 where
+  pub within : (i : ℕ) → i ≤ j → Within lo hi (at P i)
+  pub low_value : below ≡ nearest_value le_z lo P (at P j) j
+  pub high_value : above ≡ nearest_value (λ a b. le_z b a) hi P (at P j) j
 
 -- a spot is the last place below n whose sample is v
 abbrev pub LastAt : List ℤ → ℕ → ℤ → Spot → Type 0

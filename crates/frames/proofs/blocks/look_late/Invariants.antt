@@ -1,12 +1,8 @@
--- `look_late` meets its contract. The loop's invariant: what is known of the mask before the places in turn. The measure is the places left.
-use Prim.Native.Nat.{◌≤◌}
+-- `look_late` meets its contract. The loop's invariant: what is known of the mask before the places in turn.
 use mathlib.Core.Path.{◌≡◌}
 use lib.ListN.{length}
 use Rattle.frames.specs.Inside.{Looked}
 use Rattle.frames.proofs.blocks.look_late.Given as goal
 
 abbrev pub invariant-loop-j : goal.invariant-loop-j
-invariant-loop-j l = (l.j ≤ length l.offsets) × (length l.mask ≡ length l.initial.mask) × Looked l.frame l.offsets l.below l.above l.at 0 l.standing l.mask
-
-abbrev pub decreases-loop-j : goal.decreases-loop-j
-decreases-loop-j l = l.j
+invariant-loop-j l = (length l.mask ≡ length l.initial.mask) × Looked l.frame l.steps l.at 0 l.standing l.mask

@@ -8,19 +8,19 @@ pub look_late-late-requires : goal.look_late-late-requires
 look_late-late-requires c = c.requires
 
 pub returns-then-late-eq0 : goal.returns-then-late-eq0
-returns-then-late-eq0 c = nowhere-told _ _ _ _ c.look_late-late.ensures c.if-late-eq0.true
+returns-then-late-eq0 c = nowhere-told _ _ c.look_late-late.ensures c.if-late-eq0.true
 
 pub look-glance-requires : goal.look-glance-requires
-look-glance-requires c = let p = c.requires in (within_same (omega (arith, c.look_late-late.auto)) p.0, c.look_late-late.ensures, omega (arith, c.look_late-late.auto, p.2))
+look-glance-requires c = let p = c.requires in (within_same (omega (arith, c.look_late-late.auto)) p.0, c.look_late-late.ensures)
 
 pub returns-then-standing-eq0 : goal.returns-then-standing-eq0
-returns-then-standing-eq0 c = nowhere-told _ _ _ _ c.look-glance.ensures c.if-standing-eq0.true
+returns-then-standing-eq0 c = nowhere-told _ _ c.look-glance.ensures c.if-standing-eq0.true
 
 pub look_alone-requires : goal.look_alone-requires
-look_alone-requires c = let p = c.requires in (within_same (omega (arith, c.look-glance.auto, c.look_late-late.auto)) p.0, c.look-glance.ensures.stands, c.look-glance.ensures.within, omega (arith, c.look-glance.auto, c.look_late-late.auto, p.2))
+look_alone-requires c = let p = c.requires in (within_same (omega (arith, c.look-glance.auto, c.look_late-late.auto)) p.0, c.look-glance.ensures.stands, c.look-glance.ensures.within, c.look-glance.ensures.counted.few)
 
-pub returns-then-done-offsets : goal.returns-then-done-offsets
-returns-then-done-offsets c = c.look_alone.ensures
+pub returns-then-done-steps : goal.returns-then-done-steps
+returns-then-done-steps c = c.look_alone.ensures
 
 pub returns : goal.returns
-returns c = all_told _ _ _ _ c.look-glance.ensures c.if-done-offsets.false
+returns c = all_told _ _ c.look-glance.ensures c.if-done-steps.false

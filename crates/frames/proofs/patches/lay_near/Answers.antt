@@ -1,20 +1,17 @@
 -- The goals of `lay_near` that the check leaves.
-use native.Mathlib.Nat.{le_antisymm}
+use mathlib.Core.Path.{refl}
 use native.Mathlib.Omega.{arith}
-use Rattle.order.proofs.Filling.{filled_none, filled_more, filled_all}
-use Rattle.frames.specs.Inside.{near_offsets}
-use borrow.Author.Rules.{rules}
+use Rattle.frames.proofs.OffsetLaws.{near_to_none, near_there_still, near_to_more, near_to_all}
 use Rattle.frames.proofs.patches.lay_near.Goals as goal
 
 pub loop-j-init : goal.loop-j-init
-loop-j-init c = (omega arith, filled_none _ _)
-
-pub bounds-near-j : goal.bounds-near-j
-bounds-near-j c = let w = c.loop-j.invariant.1.long in search rules
+loop-j-init c = (omega arith, near_to_none _ _ _)
 
 pub loop-j-preserved : goal.loop-j-preserved
-loop-j-preserved c = let l = c.loop-j.invariant in let h = c.loop-j-test.true in (omega arith, filled_more _ l.1 (omega arith) c.near_offset.ensures)
+loop-j-preserved c =
+    let w = c.loop-j.invariant in
+    let h = c.loop-j-test.true in
+    (omega arith, near_to_more w.1 (omega arith) (near_there_still w.1 c.near_offset-below.ensures c.near_offset-above.ensures _ refl))
 
 pub returns : goal.returns
-unfolding near_offsets
-returns c = let l = c.loop-j.invariant in rw (← le_antisymm l.0 c.loop-j-test.false) (filled_all _ l.1)
+returns c = let w = c.loop-j.invariant in near_to_all w.1 c.loop-j-test.false w.0

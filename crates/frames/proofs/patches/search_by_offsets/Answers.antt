@@ -3,7 +3,7 @@ use Rattle.frames.proofs.OffsetLaws.{grid_laid, rows_laid}
 use Rattle.frames.proofs.patches.search_by_offsets.Goals as goal
 
 pub search_rows-requires : goal.search_rows-requires
-search_rows-requires c = grid_laid _ _ _ _ _ _ c.lay_near.ensures c.lay_near-2.ensures c.requires
+search_rows-requires c = grid_laid _ _ _ _ c.lay_near.ensures c.requires
 
 pub returns : goal.returns
-returns c = rows_laid _ _ _ _ _ _ c.lay_near.ensures c.lay_near-2.ensures _ c.search_rows.ensures
+returns c = rows_laid _ _ _ _ c.lay_near.ensures _ c.search_rows.ensures

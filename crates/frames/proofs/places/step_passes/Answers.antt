@@ -10,28 +10,28 @@ pub level_under-level-requires : goal.level_under-level-requires
 level_under-level-requires c = let p = c.requires.here_in in omega arith
 
 pub level_under-requires : goal.level_under-requires
-level_under-requires c = let p = c.requires.one_in c.if-low-high.true in omega arith
+level_under-requires c = let p = c.requires.one_in c.if-below-above.true in omega arith
 
-pub returns-then-low-high : goal.returns-then-low-high
-returns-then-low-high c = ap₂ eqb c.level_under-level.ensures c.level_under.ensures ∙ sym (one_near _ _ _ _ _ c.if-low-high.true)
+pub returns-then-below-above : goal.returns-then-below-above
+returns-then-below-above c = ap₂ eqb c.level_under-level.ensures c.level_under.ensures ∙ sym (one_near _ _ _ c.if-below-above.true)
 
-pub level_under-requires-then-low-eq-NOWHERE : goal.level_under-requires-then-low-eq-NOWHERE
-level_under-requires-then-low-eq-NOWHERE c = let p = c.requires.high_in (λ q. c.if-low-high.false (c.if-low-eq-NOWHERE.true ∙ sym q)) in omega arith
+pub level_under-requires-then-below : goal.level_under-requires-then-below
+level_under-requires-then-below c = let p = c.requires.high_in (λ q. c.if-below-above.false (c.if-below.true ∙ sym q)) in omega arith
 
-pub returns-then-low-eq-NOWHERE : goal.returns-then-low-eq-NOWHERE
-returns-then-low-eq-NOWHERE c = ap₂ ltb c.level_under-level.ensures c.level_under-then-low-eq-NOWHERE.ensures ∙ sym (high_near _ _ _ _ _ c.if-low-high.false c.if-low-eq-NOWHERE.true)
+pub returns-then-below : goal.returns-then-below
+returns-then-below c = ap₂ ltb c.level_under-level.ensures c.level_under-then-below.ensures ∙ sym (high_near _ _ _ c.if-below-above.false c.if-below.true)
 
-pub level_under-requires-then-high-eq-NOWHERE : goal.level_under-requires-then-high-eq-NOWHERE
-level_under-requires-then-high-eq-NOWHERE c = let p = c.requires.low_in c.if-low-eq-NOWHERE.false in omega arith
+pub level_under-requires-then-above : goal.level_under-requires-then-above
+level_under-requires-then-above c = let p = c.requires.low_in c.if-below.false in omega arith
 
-pub returns-then-high-eq-NOWHERE : goal.returns-then-high-eq-NOWHERE
-returns-then-high-eq-NOWHERE c = ap₂ ltb c.level_under-then-high-eq-NOWHERE.ensures c.level_under-level.ensures ∙ sym (low_near _ _ _ _ _ c.if-low-high.false c.if-low-eq-NOWHERE.false c.if-high-eq-NOWHERE.true)
+pub returns-then-above : goal.returns-then-above
+returns-then-above c = ap₂ ltb c.level_under-then-above.ensures c.level_under-level.ensures ∙ sym (low_near _ _ _ c.if-below-above.false c.if-below.false c.if-above.true)
 
 pub level_under-requires-2 : goal.level_under-requires-2
-level_under-requires-2 c = let p = c.requires.low_in c.if-low-eq-NOWHERE.false in omega arith
+level_under-requires-2 c = let p = c.requires.low_in c.if-below.false in omega arith
 
 pub level_under-requires-3 : goal.level_under-requires-3
-level_under-requires-3 c = let p = c.requires.high_in c.if-high-eq-NOWHERE.false in omega arith
+level_under-requires-3 c = let p = c.requires.high_in c.if-above.false in omega arith
 
 pub returns : goal.returns
-returns c = ap₂ ◌&&◌ (ap₂ ltb c.level_under-2.ensures c.level_under-level.ensures) (ap₂ ltb c.level_under-level.ensures c.level_under-3.ensures) ∙ sym (both_near _ _ _ _ _ c.if-low-high.false c.if-low-eq-NOWHERE.false c.if-high-eq-NOWHERE.false)
+returns c = ap₂ ◌&&◌ (ap₂ ltb c.level_under-2.ensures c.level_under-level.ensures) (ap₂ ltb c.level_under-level.ensures c.level_under-3.ensures) ∙ sym (both_near _ _ _ c.if-below-above.false c.if-below.false c.if-above.false)

@@ -6,7 +6,7 @@ use Rattle.frames.specs.Inside.{all_places_pass, RowsListed}
 use Rattle.frames.proofs.rows.search_rows.Given as goal
 
 abbrev pub invariant-loop-row : goal.invariant-loop-row
-invariant-loop-row l = (l.row ≤ l.rows) × (length l.positions ≡ length l.initial.positions) × RowsListed (λ row column. all_places_pass l.frame l.offsets l.below l.above (row * l.pitch + column)) l.width l.columns l.row l.initial.positions l.found l.positions
+invariant-loop-row l = (l.row ≤ l.rows) × (length l.positions ≡ length l.initial.positions) × RowsListed (λ row column. all_places_pass l.frame l.steps (row * l.pitch + column)) l.width l.columns l.row l.initial.positions l.found l.positions
 
 abbrev pub decreases-loop-row : goal.decreases-loop-row
 decreases-loop-row l = l.rows - l.row

@@ -2,8 +2,8 @@
 use Rattle.host_answers.proofs.HandedOut.{put-done, put_refused}
 use Rattle.host_answers.proofs.answering.put_answer.Goals as goal
 
-pub returns-in-Refused : goal.returns-in-Refused
-returns-in-Refused c = put_refused c.in-Refused.is c.result_of.ensures
+pub returns-in-Err : goal.returns-in-Err
+returns-in-Err c = put_refused c.in-Err.is c.result_of.ensures
 
-pub returns-in-Done : goal.returns-in-Done
-returns-in-Done c = put-done c.in-Done.is c.put_words.ensures c.put_words-in-Done.ensures c.put_counts.ensures
+pub returns-in-Ok : goal.returns-in-Ok
+returns-in-Ok c = put-done c.in-Ok.is c.put_words.ensures c.put_words-in-Ok.ensures c.put_counts.ensures

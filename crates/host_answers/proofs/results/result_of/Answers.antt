@@ -10,4 +10,4 @@ pub overflow_add-result : goal.overflow_add-result
 overflow_add-result c = omega (arith, (number_range c.args.why).1)
 
 pub returns : goal.returns
-returns c = result_made _ c.number-number.ensures c.place.ensures c.capped-place.ensures
+returns c = result_made _ c.number-number.ensures c.place.ensures c.min-place.ensures

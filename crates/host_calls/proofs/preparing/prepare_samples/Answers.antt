@@ -6,14 +6,14 @@ use Rattle.host_calls.proofs.preparing.prepare_samples.Goals as goal
 pub put_tables-requires : goal.put_tables-requires
 put_tables-requires c =
     let a = c.args in
-    fine_fits a.pattern.now a.low.now a.high.now a.witness_i.now a.witness_j.now (sym c.in-Fine.is ∙ c.for_tables.ensures)
+    fine_fits a.pattern.now a.low.now a.high.now a.witness_i.now a.witness_j.now (sym c.in-Ok.is ∙ c.for_tables.ensures)
 
-pub returns-in-Refused : goal.returns-in-Refused
-returns-in-Refused c =
+pub returns-in-Err : goal.returns-in-Err
+returns-in-Err c =
     let a = c.args in
-    prepare_refused a.pattern.now a.low.now a.high.now a.witness_i.now a.witness_j.now _ (sym c.in-Refused.is ∙ c.for_tables.ensures) c.result_of.ensures
+    prepare_refused a.pattern.now a.low.now a.high.now a.witness_i.now a.witness_j.now _ (sym c.in-Err.is ∙ c.for_tables.ensures) c.result_of.ensures
 
-pub returns-in-Fine : goal.returns-in-Fine
-returns-in-Fine c =
+pub returns-in-Ok : goal.returns-in-Ok
+returns-in-Ok c =
     let a = c.args in
-    prepare_put a.pattern.now a.low.now a.high.now a.witness_i.now a.witness_j.now (sym c.in-Fine.is ∙ c.for_tables.ensures) c.put_tables.ensures
+    prepare_put a.pattern.now a.low.now a.high.now a.witness_i.now a.witness_j.now (sym c.in-Ok.is ∙ c.for_tables.ensures) c.put_tables.ensures

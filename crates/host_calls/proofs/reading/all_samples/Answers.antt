@@ -5,5 +5,4 @@ use Rattle.host_calls.proofs.reading.all_samples.Goals as goal
 
 pub returns : goal.returns
 returns c =
-    let s = c in
-    samples_taken_lem s.args.bytes.now s.args.samples.now c.take_samples.ensures s.requires refl
+    samples_taken_lem c.args.bytes.now c.args.samples.now c.take_samples.ensures c.requires refl

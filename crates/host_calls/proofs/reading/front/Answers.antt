@@ -4,5 +4,4 @@ use Rattle.host_calls.proofs.reading.front.Goals as goal
 
 pub returns : goal.returns
 returns c =
-    let s = c in
-    front_read s.args.table.now s.args.entries.now _ _ s.requires.0 s.requires.1 c.take_entries.ensures
+    front_read c.args.table.now c.args.entries.now _ _ c.requires.0 c.requires.1 c.take_entries.ensures

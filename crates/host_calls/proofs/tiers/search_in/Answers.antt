@@ -5,7 +5,6 @@ use Rattle.host_calls.proofs.tiers.search_in.Goals as goal
 
 pub returns : goal.returns
 returns c =
-    let s = c in
-    let a = s.args in
-    search_put a.pattern.now a.low.now a.high.now a.witness_i.now a.witness_j.now a.trace.now a.survivors.now a.positions.now a.counts.now s.requires.fits s.requires.arrays
+    let a = c.args in
+    search_put a.pattern.now a.low.now a.high.now a.witness_i.now a.witness_j.now a.trace.now a.survivors.now a.positions.now a.counts.now c.requires.fits c.requires.arrays
     c.search_by-answer.ensures (rw sub-zero c.all_samples.ensures) c.put_answer.ensures

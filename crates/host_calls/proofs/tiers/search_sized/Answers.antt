@@ -4,23 +4,25 @@ use Rattle.host_calls.proofs.SearchingLaws.{search_fits, search_refused}
 use borrow.Author.Rules.{rules}
 use Rattle.host_calls.proofs.tiers.search_sized.Goals as goal
 
-pub search_short-requires : goal.search_short-requires
-search_short-requires c =
+pub search_within-requires : goal.search_within-requires
+search_within-requires c =
     let a = c.args in
     record {
+      size = search rules;
       trace_len_bound = search rules;
-      fits = search_fits a.pattern.now a.low.now a.high.now a.witness_i.now a.witness_j.now a.trace.now a.survivors.now a.positions.now a.counts.now _ c.for_search.ensures c.in-Fit.is;
+      fits = search_fits a.pattern.now a.low.now a.high.now a.witness_i.now a.witness_j.now a.trace.now a.survivors.now a.positions.now a.counts.now _ c.for_search.ensures c.in-Ok.is;
     }
 
-pub search_brief-requires : goal.search_brief-requires
-search_brief-requires c =
+pub search_within-requires-in-Ok : goal.search_within-requires-in-Ok
+search_within-requires-in-Ok c =
     let a = c.args in
     record {
+      size = search rules;
       trace_len_bound = search rules;
-      fits = search_fits a.pattern.now a.low.now a.high.now a.witness_i.now a.witness_j.now a.trace.now a.survivors.now a.positions.now a.counts.now _ c.for_search.ensures c.in-Fit.is;
+      fits = search_fits a.pattern.now a.low.now a.high.now a.witness_i.now a.witness_j.now a.trace.now a.survivors.now a.positions.now a.counts.now _ c.for_search.ensures c.in-Ok.is;
     }
 
-pub returns-in-Refused : goal.returns-in-Refused
-returns-in-Refused c =
+pub returns-in-Err : goal.returns-in-Err
+returns-in-Err c =
     let a = c.args in
-    search_refused a.pattern.now a.low.now a.high.now a.witness_i.now a.witness_j.now a.trace.now a.survivors.now a.positions.now a.counts.now _ c.for_search.ensures c.in-Refused.is c.result_of.ensures
+    search_refused a.pattern.now a.low.now a.high.now a.witness_i.now a.witness_j.now a.trace.now a.survivors.now a.positions.now a.counts.now _ c.for_search.ensures c.in-Err.is c.result_of.ensures

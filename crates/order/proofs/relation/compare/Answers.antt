@@ -1,26 +1,22 @@
--- `compare` meets its contract: the machine's tests on the samples' bits are the tests on their values.
-use mathlib.Core.Path.{◌≡◌, ap₂, ◌∙◌, sym}
-use mathlib.Core.Bool.{Bool}
+-- `compare` meets its contract: what the library's `cmp` tells of two numbers is their relation.
+use mathlib.Core.Path.{◌≡◌, refl, sym}
+use mathlib.Core.Bool.{Bool, true, false, cond}
 use lib.IntN.{ℤ}
-use lib.Signed.{lt_z}
-use mir.Syntax.{w32}
-use mir.Val.{to_z, of_z, SFits}
-use mir.Facts.{to_z-of_z}
+use Rattle.std.specs.Prelude.{int_lt}
+use Rattle.std.proofs.Common.{rules}
+use Rattle.std.specs.Ordering.{int_cmp}
+use Rattle.std.specs.declared.cmp.Ordering.TheVariants.{Less, Equal, Greater}
+use Rattle.order.specs.Relations.{rel}
 use Rattle.order.proofs.Orders.{rel_less, rel_greater, rel_equal}
 use Rattle.order.proofs.relation.compare.Goals as goal
 
--- a test on two samples' bits is the test on the samples
-on_values : {a b : ℤ} {t : Bool} → SFits w32 a → SFits w32 b → lt_z (to_z w32 (of_z w32 a)) (to_z w32 (of_z w32 b)) ≡ t → lt_z a b ≡ t
-on_values fa fb e = sym (ap₂ lt_z (to_z-of_z fa) (to_z-of_z fb)) ∙ e
-
-pub returns-then-a-b : goal.returns-then-a-b
-returns-then-a-b c = sym (rel_less _ _ (on_values c.ranges.a c.ranges.b c.if-a-b.true))
-
-pub returns-then-b-a : goal.returns-then-b-a
-returns-then-b-a c = sym (rel_greater _ _ (on_values c.ranges.b c.ranges.a c.if-b-a.true))
+as_rel : (a b : ℤ) → int_cmp a b ≡ rel a b
+as_rel a b = go (int_lt a b) (int_lt b a) refl refl
+  where
+    go : (s t : Bool) → int_lt a b ≡ s → int_lt b a ≡ t → cond s Less (cond t Greater Equal) ≡ rel a b
+    go true t e f = sym (rel_less a b e)
+    go false true e f = sym (rel_greater a b f)
+    go false false e f = sym (rel_equal a b e f)
 
 pub returns : goal.returns
-returns c =
-    sym (rel_equal _ _
-    (on_values c.ranges.a c.ranges.b c.if-a-b.false)
-    (on_values c.ranges.b c.ranges.a c.if-b-a.false))
+returns c = search (rules, as_rel)

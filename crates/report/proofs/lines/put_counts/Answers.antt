@@ -36,6 +36,5 @@ put_byte-requires c =
 pub returns : goal.returns
 returns c =
     counts_put c.args.counts
-    c.wide32.ensures c.wide32-2.ensures c.wide32-3.ensures c.wide32-4.ensures c.wide32-5.ensures
     c.put_item-windows.ensures c.put_item-duels.ensures c.put_item-survivors.ensures c.put_item-sweep.ensures c.put_item-found.ensures
     c.put_byte.ensures

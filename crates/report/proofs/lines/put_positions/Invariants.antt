@@ -1,13 +1,9 @@
--- `put_positions` meets its contract. The loop's invariant: the positions passed are put, one to a line. The measure is the
--- positions left.
-use Prim.Native.Nat.{◌≤◌, ◌-◌, ◌*◌}
+-- The positions passed are put, one to a line.
+use Prim.Native.Nat.{◌*◌}
 use lib.ListN.{take}
 use Rattle.report.specs.Texts.{lines}
 use Rattle.report.specs.Inside.{line_room, PutWithin}
 use Rattle.report.proofs.lines.put_positions.Given as goal
 
-abbrev pub invariant-loop-k : goal.invariant-loop-k
-invariant-loop-k l = (l.k ≤ l.found) × PutWithin l.initial.out l.at (lines (take l.k l.positions)) l.out l.end (line_room * l.k)
-
-abbrev pub decreases-loop-k : goal.decreases-loop-k
-decreases-loop-k l = l.found - l.k
+abbrev pub invariant-loop-position : goal.invariant-loop-position
+invariant-loop-position l = PutWithin l.initial.out l.at (lines (take l.position-index l.positions)) l.out l.end (line_room * l.position-index)

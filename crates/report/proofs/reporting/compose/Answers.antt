@@ -9,54 +9,48 @@ pub returns-then-input-gt-INPUT_LIMIT : goal.returns-then-input-gt-INPUT_LIMIT
 returns-then-input-gt-INPUT_LIMIT c = put_as (sym (text_long _ c.if-input-gt-INPUT_LIMIT.true)) c.put_refusal.ensures
 
 pub returns-in_default : goal.returns-in_default
-returns-in_default c = put_as (sym (trace-refused _ c.if-input-gt-INPUT_LIMIT.false c.read-traced.ensures refl c.in_default.is)) (c.put_unread.ensures.line _ c.in_default.is)
+returns-in_default c = put_as (sym (trace-refused _ c.if-input-gt-INPUT_LIMIT.false c.read-traced.ensures refl c.in_default.is)) (c.put_unanswered.ensures.line _ c.in_default.is)
 
 pub slice_bounds-read-end-2 : goal.slice_bounds-read-end-2
-slice_bounds-read-end-2 c = read_before c.read-traced.ensures c.in-Done.is
+slice_bounds-read-end-2 c = read_before c.read-traced.ensures c.in-Ok.is
 
 pub returns-in_default-patterned : goal.returns-in_default-patterned
 returns-in_default-patterned c =
-    let e = trace_read _ c.if-input-gt-INPUT_LIMIT.false c.read-traced.ensures refl c.in-Done.is in
-    put_as (sym (pattern_refused e c.read-patterned.ensures refl c.in_default-patterned.is)) (c.put_unread-in_default-patterned.ensures.line _ c.in_default-patterned.is)
+    let e = trace_read _ c.if-input-gt-INPUT_LIMIT.false c.read-traced.ensures refl c.in-Ok.is in
+    put_as (sym (pattern_refused e c.read-patterned.ensures refl c.in_default-patterned.is)) (c.put_unanswered-in_default-patterned.ensures.line _ c.in_default-patterned.is)
 
 pub slice_bounds-prepare-end : goal.slice_bounds-prepare-end
-slice_bounds-prepare-end c = read_few c.read-patterned.ensures c.in-Done-patterned.is c.read-patterned.auto.samples
-
-pub put_unprepared-requires : goal.put_unprepared-requires
-put_unprepared-requires c = c.requires
+slice_bounds-prepare-end c = read_few c.read-patterned.ensures c.in-Ok-patterned.is c.read-patterned.auto.samples
 
 pub returns-in_default-prepared : goal.returns-in_default-prepared
 unfolding blank
 returns-in_default-prepared c =
-    let e = trace_read _ c.if-input-gt-INPUT_LIMIT.false c.read-traced.ensures refl c.in-Done.is in
-    let f = pattern_read e c.read-patterned.ensures refl c.in-Done-patterned.is in
-    put_as (sym (prepare_refused f c.prepare-prepared.ensures refl refl refl refl c.in_default-prepared.is)) (c.put_unprepared.ensures.line _ c.in_default-prepared.is)
+    let e = trace_read _ c.if-input-gt-INPUT_LIMIT.false c.read-traced.ensures refl c.in-Ok.is in
+    let f = pattern_read e c.read-patterned.ensures refl c.in-Ok-patterned.is in
+    put_as (sym (prepare_refused f c.prepare-prepared.ensures refl refl refl refl c.in_default-prepared.is)) (c.put_unanswered-in_default-prepared.ensures.line _ c.in_default-prepared.is)
 
 pub slice_bounds-search-end : goal.slice_bounds-search-end
-slice_bounds-search-end c = read_few c.read-patterned.ensures c.in-Done-patterned.is c.read-patterned.auto.samples
+slice_bounds-search-end c = read_few c.read-patterned.ensures c.in-Ok-patterned.is c.read-patterned.auto.samples
 
 pub slice_bounds-search-end-6 : goal.slice_bounds-search-end-6
-slice_bounds-search-end-6 c = read_few c.read-traced.ensures c.in-Done.is c.read-traced.auto.samples
-
-pub put_unsearched-requires : goal.put_unsearched-requires
-put_unsearched-requires c = c.requires
+slice_bounds-search-end-6 c = read_few c.read-traced.ensures c.in-Ok.is c.read-traced.auto.samples
 
 pub returns-in_default-searched : goal.returns-in_default-searched
 unfolding blank
 returns-in_default-searched c =
-    let e = trace_read _ c.if-input-gt-INPUT_LIMIT.false c.read-traced.ensures refl c.in-Done.is in
-    let f = pattern_read e c.read-patterned.ensures refl c.in-Done-patterned.is in
-    let g = prepare_done f c.prepare-prepared.ensures refl refl refl refl c.in-Done-prepared.is in
-    put_as (sym (search_refused g c.search-searched.ensures refl refl c.in_default-searched.is)) (c.put_unsearched.ensures.line _ c.in_default-searched.is)
+    let e = trace_read _ c.if-input-gt-INPUT_LIMIT.false c.read-traced.ensures refl c.in-Ok.is in
+    let f = pattern_read e c.read-patterned.ensures refl c.in-Ok-patterned.is in
+    let g = prepare_done f c.prepare-prepared.ensures refl refl refl refl c.in-Ok-prepared.is in
+    put_as (sym (search_refused g c.search-searched.ensures refl refl c.in_default-searched.is)) (c.put_unanswered-in_default-searched.ensures.line _ c.in_default-searched.is)
 
 pub put_answer-requires : goal.put_answer-requires
 put_answer-requires c =
-    answer-room (found_few c.search-searched.ensures c.in-Done-searched.is) c.search-searched.auto.positions c.requires
+    answer-room (found_few c.search-searched.ensures c.in-Ok-searched.is) c.search-searched.auto.positions c.requires
 
 pub returns : goal.returns
 unfolding blank
 returns c =
-    let e = trace_read _ c.if-input-gt-INPUT_LIMIT.false c.read-traced.ensures refl c.in-Done.is in
-    let f = pattern_read e c.read-patterned.ensures refl c.in-Done-patterned.is in
-    let g = prepare_done f c.prepare-prepared.ensures refl refl refl refl c.in-Done-prepared.is in
-    put_as (sym (search_found g c.search-searched.ensures refl refl c.in-Done-searched.is)) c.put_answer.ensures
+    let e = trace_read _ c.if-input-gt-INPUT_LIMIT.false c.read-traced.ensures refl c.in-Ok.is in
+    let f = pattern_read e c.read-patterned.ensures refl c.in-Ok-patterned.is in
+    let g = prepare_done f c.prepare-prepared.ensures refl refl refl refl c.in-Ok-prepared.is in
+    put_as (sym (search_found g c.search-searched.ensures refl refl c.in-Ok-searched.is)) c.put_answer.ensures

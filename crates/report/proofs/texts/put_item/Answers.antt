@@ -6,9 +6,8 @@ use Rattle.report.proofs.texts.put_item.Goals as goal
 
 pub put_number-requires : goal.put_number-requires
 put_number-requires c =
-    let s = c in
-    let h = s.requires in
-    let l = short_64 s.args.v s.ranges.v.fits in
+    let h = c.requires in
+    let l = short_64 c.args.v c.ranges.v.fits in
     put-room c.put_text-end.ensures _ (omega arith)
 
 pub returns : goal.returns

@@ -17,16 +17,15 @@ returns-then-pattern-le1 c = record { steady = λ way e. single_steady c.args.pa
 
 pub returns-then-witness_i : goal.returns-then-witness_i
 returns-then-witness_i c =
-    let s = c in
-    let P = s.args.pattern.now in
+    let P = c.args.pattern.now in
     let h = c.if-pattern-le1.false in
-    let none = no_witness s.requires (omega arith) c.if-witness_i.true in
+    let none = no_witness c.requires (omega arith) c.if-witness_i.true in
     record {
       steady = λ way e.
           let r : c.compare.result ≡ way = cc in
           let fa : SFits w32 (at P 1) = search rules in
           let fb : SFits w32 (at P 0) = search rules in
-          subst (Steady P) (sym (c.compare.ensures ∙ ap₂ rel (to_z-of_z fa) (to_z-of_z fb)) ∙ r) (goes_one_way P none s.requires.some);
+          subst (Steady P) (sym (c.compare.ensures ∙ ap₂ rel (to_z-of_z fa) (to_z-of_z fb)) ∙ r) (goes_one_way P none c.requires.some);
     }
 
 pub returns : goal.returns

@@ -1,12 +1,20 @@
 -- `run` meets its contract: the duels' and the sweep's parts together, and the list of positions filled up behind.
-use Prim.Native.Nat.{◌≤◌}
+use Prim.Native.Nat.{ℕ, ◌≤◌}
+use mathlib.Core.Path.{◌≡◌}
+use mathlib.Core.List.{List}
 use native.Mathlib.Omega.{arith}
-use lib.ListN.{length}
+use lib.IntN.{ℤ}
+use lib.ListN.{length, take}
+use lib.Seq.{length-take-le}
+use Rattle.order.specs.Sizes.{windows_of}
 use Rattle.order.proofs.Lists.{windows_few}
+use Rattle.duels.specs.declared.answers.Duelled.{Duelled}
 use Rattle.lists.proofs.FilledUp.{part_filled}
-use Rattle.search.proofs.WrittenOut.{positions_out, survivors-held, searched}
+use Rattle.search.specs.Inside.Asked.{SurvivorsOf}
+use Rattle.search.specs.Inside.Sweeps.{SweepOf}
+use Rattle.search.proofs.WrittenOut.{positions_out, survivors-held, kept_rows, searched}
 use Rattle.search.proofs.searching.run.Goals as goal
-use Rattle.search.proofs.searching.run.Goals.{After-slice_known-4-1, After-slice_known-5-1, Start}
+use Rattle.search.proofs.searching.run.Goals.{After-sweep_windows, Start}
 
 -- the windows of the trace are few
 few-windows : (c : Start) → c.args.windows ≤ 65537
@@ -22,57 +30,70 @@ course_of-course-requires c =
     let p = c.requires in
     record { some = p.some; limit = p.witnesses.limit; long = p.witnesses.i_long; own = p.witnesses.i_own }
 
-pub sweep_windows-swept-requires : goal.sweep_windows-swept-requires
-sweep_windows-swept-requires c =
-    let s = c in
-    let p = s.requires.positions_room in
-    let h = survivors-held c.keep_windows-duelled.ensures s.requires.survivors_room in
+-- the survivors are at most as many as the windows, and their list has them all
+few-kept : {P T : List ℤ} {before after : List ℕ} {d : Duelled} {windows : ℕ} → windows ≡ windows_of (length P) (length T) → windows_of (length P) (length T) ≤ length before
+    → SurvivorsOf P T before after d → (d.kept ≤ windows) × (d.kept ≤ length after) × (length (take d.kept after) ≡ d.kept)
+few-kept n room s =
+    let h = survivors-held s room in
     let e = h.2 in
-    (record { own = s.requires.neighbours; rows = record { trace = s.requires.trace; held = h.0; kept_long = h.1 }; room = omega arith }, c.course_of-course.ensures)
+    (omega arith, h.1, length-take-le _ _ h.1)
+
+pub sweep_windows-requires : goal.sweep_windows-requires
+sweep_windows-requires c =
+    let p = c.requires.positions_room in
+    let n = c.requires.number in
+    let k = few-kept c.requires.number c.requires.survivors_room c.keep_windows-duelled.ensures in
+    let f = k.0 in
+    let l = k.2 in
+    let h = survivors-held c.keep_windows-duelled.ensures c.requires.survivors_room in
+    (record { own = c.requires.neighbours; rows = kept_rows _ _ c.requires.trace h.0; room = omega arith }, c.course_of-course.ensures)
+
+-- what the sweep leaves, with the number of the survivors as the duels told it
+left : (c : After-sweep_windows) →
+    let d = c.keep_windows-duelled in
+    let w = c.sweep_windows in
+    SweepOf c.args.pattern.now c.args.trace.now d.result.kept c.args.positions.now w.new.positions w.result.swept.spent w.result.wasted w.result.swept.found
+left c = let k = few-kept c.requires.number c.requires.survivors_room c.keep_windows-duelled.ensures in rw k.2 at c.sweep_windows.ensures
 
 -- no more windows are listed than there are
-found_few : (c : After-slice_known-4-1) → c.sweep_windows-swept.result.found ≤ c.args.windows
+found_few : (c : After-sweep_windows) → c.sweep_windows.result.swept.found ≤ c.args.windows
 found_few c =
-    let s = c in
-    let n = s.requires.number in
-    let e = (survivors-held c.keep_windows-duelled.ensures s.requires.survivors_room).2 in
-    let f = c.sweep_windows-swept.ensures.few in
+    let k = few-kept c.requires.number c.requires.survivors_room c.keep_windows-duelled.ensures in
+    let e = k.0 in
+    let f = (left c).few in
     omega arith
 
 pub offset_bounds-positions-found : goal.offset_bounds-positions-found
-offset_bounds-positions-found c = omega (arith, few-windows (goal.at.offset_bounds-positions-found c).Start, found_few (goal.at.offset_bounds-positions-found c).After-slice_known-4-1)
+offset_bounds-positions-found c = omega (arith, few-windows (goal.at.offset_bounds-positions-found c).Start, found_few (goal.at.offset_bounds-positions-found c).After-sweep_windows)
 
 pub slice_bounds-fill_unused-count : goal.slice_bounds-fill_unused-count
-slice_bounds-fill_unused-count c = omega (arith, found_few (goal.at.slice_bounds-fill_unused-count c).After-slice_known-4-1)
+slice_bounds-fill_unused-count c = omega (arith, found_few (goal.at.slice_bounds-fill_unused-count c).After-sweep_windows)
 
 pub slice_bounds-fill_unused-start : goal.slice_bounds-fill_unused-start
-slice_bounds-fill_unused-start c = found_few (goal.at.slice_bounds-fill_unused-start c).After-slice_known-4-1
-
--- the survivors are at most as many as the windows
-kept-few : (c : After-slice_known-5-1) → c.keep_windows-duelled.result.kept ≤ c.args.windows
-kept-few c =
-    let s = c in
-    let n = s.requires.number in
-    let e = (survivors-held c.keep_windows-duelled.ensures s.requires.survivors_room).2 in
-    omega arith
+slice_bounds-fill_unused-start c = found_few (goal.at.slice_bounds-fill_unused-start c).After-sweep_windows
 
 pub overflow_cast-result : goal.overflow_cast-result
 overflow_cast-result c = omega (arith, few-windows (goal.at.overflow_cast-result c).Start)
 
 pub overflow_cast-result-2 : goal.overflow_cast-result-2
-overflow_cast-result-2 c = omega (arith, few-windows (goal.at.overflow_cast-result-2 c).Start, kept-few (goal.at.overflow_cast-result-2 c).After-slice_known-5-1)
+overflow_cast-result-2 c = omega (arith, few-windows (goal.at.overflow_cast-result-2 c).Start, (few-kept c.requires.number c.requires.survivors_room c.keep_windows-duelled.ensures).0)
 
 pub overflow_cast-result-3 : goal.overflow_cast-result-3
-overflow_cast-result-3 c = let f = c.sweep_windows-swept.ensures.few in omega (arith, few-windows (goal.at.overflow_cast-result-3 c).Start, kept-few (goal.at.overflow_cast-result-3 c).After-slice_known-5-1)
+overflow_cast-result-3 c =
+    let b = (left (goal.at.overflow_cast-result-3 c).After-sweep_windows).bound in
+    let t = c.requires.trace in
+    omega (arith, few-windows (goal.at.overflow_cast-result-3 c).Start, (few-kept c.requires.number c.requires.survivors_room c.keep_windows-duelled.ensures).0)
+
+pub overflow_cast-result-4 : goal.overflow_cast-result-4
+overflow_cast-result-4 c = omega (arith, few-windows (goal.at.overflow_cast-result-4 c).Start, found_few (goal.at.overflow_cast-result-4 c).After-sweep_windows)
 
 pub returns : goal.returns
 returns c =
-    let s = c in
-    let n = s.requires.number in
-    let p = s.requires.positions_room in
-    let w = c.sweep_windows-swept.ensures in
+    let n = c.requires.number in
+    let p = c.requires.positions_room in
+    let w = left (goal.at.returns c).After-sweep_windows in
     let l = w.same_length in
-    let f = w.few in
-    let k = kept-few (goal.at.returns c).After-slice_known-5-1 in
+    let f = found_few (goal.at.returns c).After-sweep_windows in
+    let k = (few-kept c.requires.number c.requires.survivors_room c.keep_windows-duelled.ensures).0 in
     searched n c.keep_windows-duelled.ensures
-    (positions_out w n (omega arith) k (part_filled c.sweep_windows-swept.new.positions c.sweep_windows-swept.result.found s.args.windows (omega arith) (omega arith) c.fill_unused.ensures))
+    (positions_out w n (omega arith) k (part_filled c.sweep_windows.new.positions c.sweep_windows.result.swept.found c.args.windows (omega arith) (omega arith) c.fill_unused.ensures))

@@ -1,16 +1,12 @@
 -- `sweep_all` meets its contract: each turn sweeps one window as the rules do, or passes over one that is not in the trace. The loop's
--- invariant: the windows passed are swept. The measure is the windows left.
-use Prim.Native.Nat.{◌-◌}
+-- invariant: the windows passed are swept.
 use mathlib.Core.Path.{◌≡◌}
 use lib.ListN.{length, drop}
 use Rattle.sweep.specs.Sweeps.{places_of, entry_tests, inside_part}
 use Rattle.sweep.specs.Inside.{SweptTo}
 use Rattle.sweep.proofs.sweeping.sweep_all.Given as goal
 
-abbrev pub invariant-loop-k : goal.invariant-loop-k
-invariant-loop-k l =
+abbrev pub invariant-loop-x : goal.invariant-loop-x
+invariant-loop-x l =
     (l.m ≡ places_of l.low l.high) × (drop l.found l.positions ≡ drop l.found l.initial.positions) ×
-    SweptTo (entry_tests l.low l.high l.trace) (places_of l.low l.high) (length l.trace) (inside_part (places_of l.low l.high) (length l.trace) l.windows) (inside_part (places_of l.low l.high) (length l.trace) (drop l.k l.windows)) (length l.windows) l.initial.positions l.positions l.k l.reach l.spent l.found
-
-abbrev pub decreases-loop-k : goal.decreases-loop-k
-decreases-loop-k l = length l.windows - l.k
+    SweptTo (entry_tests l.low l.high l.trace) (places_of l.low l.high) (length l.trace) (inside_part (places_of l.low l.high) (length l.trace) l.windows) (inside_part (places_of l.low l.high) (length l.trace) (drop l.x-index l.windows)) (length l.windows) l.initial.positions l.positions l.x-index l.reach l.spent l.found

@@ -12,51 +12,41 @@ loop-j-init c =
 
 pub overflow_add-spent : goal.overflow_add-spent
 overflow_add-spent c =
-    let s = c in
     let l = c.loop-j in
-    let h = c.loop-j-test.true in
-    let q = sym (entry_test s.args.low.now s.args.high.now s.args.trace.now s.args.x.0 l.j s.requires.places) ∙ sym c.test_place.ensures ∙ c.in-Passed.is in
+    let q = sym (entry_test c.args.low.now c.args.high.now c.args.trace.now c.args.x.0 l.j c.requires.places) ∙ sym c.test_place.ensures ∙ c.in-Passed.is in
     let b = l.invariant.bound in
     let u = l.invariant.until in
     let o = l.invariant.onward in
-    let m = s.requires.small in
-    let i = s.requires.inside in
-    let r = s.requires.reached in
-    let g = c.wide32-spent.ensures.0 in
+    let m = c.requires.small in
+    let i = c.requires.inside in
+    let r = c.requires.reached in
     let k = cheap_pass _ (entry-cheap _ _ _) q in
     omega arith
 
 pub loop-j-preserved : goal.loop-j-preserved
 loop-j-preserved c =
-    let s = c in
     let l = c.loop-j in
-    let h = c.loop-j-test.true in
-    let q = sym (entry_test s.args.low.now s.args.high.now s.args.trace.now s.args.x.0 l.j s.requires.places) ∙ sym c.test_place.ensures ∙ c.in-Passed.is in
-    rw c.wide32-spent.ensures.0 (passed_on (entry-cheap _ _ _) l.invariant h _ q)
+    let q = sym (entry_test c.args.low.now c.args.high.now c.args.trace.now c.args.x.0 l.j c.requires.places) ∙ sym c.test_place.ensures ∙ c.in-Passed.is in
+    passed_on (entry-cheap _ _ _) l.invariant c.loop-j-test.true _ q
 
 pub overflow_add-result-in-Failed : goal.overflow_add-result-in-Failed
 overflow_add-result-in-Failed c =
-    let s = c in
     let l = c.loop-j in
-    let h = c.loop-j-test.true in
-    let q = sym (entry_test s.args.low.now s.args.high.now s.args.trace.now s.args.x.0 l.j s.requires.places) ∙ sym c.test_place.ensures ∙ c.in-Failed.is in
+    let q = sym (entry_test c.args.low.now c.args.high.now c.args.trace.now c.args.x.0 l.j c.requires.places) ∙ sym c.test_place.ensures ∙ c.in-Failed.is in
     let b = l.invariant.bound in
     let u = l.invariant.until in
     let o = l.invariant.onward in
-    let m = s.requires.small in
-    let i = s.requires.inside in
-    let r = s.requires.reached in
-    let g = c.wide32.ensures.0 in
+    let m = c.requires.small in
+    let i = c.requires.inside in
+    let r = c.requires.reached in
     let k = cheap_fail _ (entry-cheap _ _ _) q in
     omega arith
 
 pub returns-in-Failed : goal.returns-in-Failed
 returns-in-Failed c =
-    let s = c in
     let l = c.loop-j in
-    let h = c.loop-j-test.true in
-    let q = sym (entry_test s.args.low.now s.args.high.now s.args.trace.now s.args.x.0 l.j s.requires.places) ∙ sym c.test_place.ensures ∙ c.in-Failed.is in
-    rw c.wide32.ensures.0 (ended_there (entry-cheap _ _ _) l.invariant h _ _ q)
+    let q = sym (entry_test c.args.low.now c.args.high.now c.args.trace.now c.args.x.0 l.j c.requires.places) ∙ sym c.test_place.ensures ∙ c.in-Failed.is in
+    ended_there (entry-cheap _ _ _) l.invariant c.loop-j-test.true _ _ q
 
 pub returns : goal.returns
 returns c = came_through c.loop-j.invariant c.loop-j-test.false

@@ -1,10 +1,10 @@
--- `ceiling` meets its contract: what a claimed high neighbour forbids, and that one more or one less than its sample is a sample.
+-- `ceiling` meets its contract: what a claimed high neighbour forbids, and that one less than its sample is a sample.
 use Rattle.tables.proofs.ClaimLaws.{ceiling_none, ceiling_place}
 use borrow.Author.Rules.{rules}
 use Rattle.tables.proofs.claimed.ceiling.Goals as goal
 
 pub returns-then-h-eq-NONE : goal.returns-then-h-eq-NONE
-returns-then-h-eq-NONE c = λ e. ceiling_none c.args.pattern.now c.args.j (search rules) c.if-h-eq-NONE.true
+returns-then-h-eq-NONE c = ceiling_none c.args.pattern.now c.args.j (search rules) c.if-h-eq-NONE.true
 
 pub returns-then-x-y : goal.returns-then-x-y
-returns-then-x-y c = λ e. ceiling_place c.args.pattern.now c.args.j _ (search rules) (search rules) c.if-x-y.true c.wide16-at.ensures c.if-at-j.true
+returns-then-x-y c = ceiling_place c.args.pattern.now c.args.j _ (search rules) (search rules) c.if-x-y.true c.from-at.ensures c.if-at-j.true

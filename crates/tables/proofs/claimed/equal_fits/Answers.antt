@@ -1,6 +1,7 @@
 -- `equal_fits` meets its contract: an earlier equal sample with none after it is both neighbours.
 use borrow.Author.Tests.{eqb-true}
 use Rattle.tables.proofs.ClaimLaws.{equal_place, first_entries_lem}
+use Rattle.tables.proofs.Values.{own_none}
 use borrow.Author.Rules.{rules}
 use Rattle.tables.proofs.claimed.equal_fits.Goals as goal
 
@@ -9,5 +10,5 @@ returns-then-k-eq-NONE c = λ e. first_entries_lem _ _ _ (eqb-true _ _ e) c.if-k
 
 pub returns-then-at-j : goal.returns-then-at-j
 returns-then-at-j c =
-    λ e. equal_place c.args.pattern.now c.args.j c.wide16-at.result c.wide16-at.ensures c.if-at-j.true (search rules) (search rules)
-    c.none_within.result c.none_within.ensures e
+    λ e. equal_place c.args.pattern.now c.args.j c.from-at.result c.from-at.ensures c.if-at-j.true (search rules) (search rules)
+    c.none_within.result (λ t. own_none (c.none_within.ensures t)) e

@@ -1,33 +1,38 @@
 -- The goals of `last_equal` that the check leaves.
-use Prim.Native.Nat.{◌-◌}
-use mathlib.Core.Path.{sym, ◌∙◌, ap}
-use native.Mathlib.Omega.{arith}
-use mir.Syntax.{w32}
-use mir.Val.{SFits, to_z}
-use mir.Facts.{to_z-of_z}
-use Rattle.order.specs.Sizes.{none, place, at}
+use Rattle.std.proofs.Common.{◌∙◌, sym, arith, length, ◌<◌, ◌-◌}
+use Rattle.order.specs.Sizes.{none, place}
 use Rattle.order.proofs.Entries.{entry_of_none, entry_of_place}
-use borrow.Author.Rules.{rules}
+use Rattle.tables.proofs.NearestByValue.{within-back}
+use Rattle.tables.proofs.Values.{at_values, eq_value, ne_value, outside}
 use Rattle.tables.proofs.neighbours.last_equal.Goals as goal
 
-pub returns-then-pattern-i : goal.returns-then-pattern-i
-returns-then-pattern-i c =
-    let i = c.loop-i.i in
-    let f : SFits w32 (at c.args.pattern.now (i - 1)) = search rules in
+pub returns-then-eq : goal.returns-then-eq
+returns-then-eq g c =
+    let value = g.T.Sample.value in
+    let l = c.loop-i in
+    let here : l.i - 1 < length c.args.pattern.now = omega arith in
     record {
-      spot = place (i - 1);
-      entry_is = sym (entry_of_place (i - 1));
+      spot = place (l.i - 1);
+      entry_is = sym (entry_of_place (l.i - 1));
       last = (
         omega arith,
-        sym (to_z-of_z f) ∙ ap (to_z w32) c.if-pattern-i.true ∙ to_z-of_z c.ranges.v,
-        record { clear = λ k g h. rw (to_z-of_z c.ranges.v) at (c.loop-i.invariant.1.clear k (omega arith) h) },
+        at_values value c.args.pattern.now (l.i - 1) here c.index-pattern-i.is ∙
+            eq_value value g.met.T.Sample.ordered g.met.T.Ord.matches_eq (sym c.eq.ensures ∙ c.if-eq.true),
+        record { clear = λ k a b. l.invariant.1.clear k (omega arith) b },
       );
     }
 
+pub loop-i-preserved : goal.loop-i-preserved
+loop-i-preserved g c =
+    let value = g.T.Sample.value in
+    let l = c.loop-i in
+    let here : l.i - 1 < length c.args.pattern.now = omega arith in (
+      omega arith,
+      within-back c.loop-i-test.true
+          (rw (at_values value c.args.pattern.now (l.i - 1) here c.index-pattern-i.is)
+          (outside g.met.T.Sample.narrow c.lies_within.ensures (ne_value value g.met.T.Sample.ordered g.met.T.Ord.matches_eq (sym c.eq.ensures ∙ c.if-eq.false))))
+          l.invariant.1,
+    )
+
 pub returns : goal.returns
-returns c =
-    record {
-      spot = none;
-      entry_is = sym entry_of_none;
-      last = record { clear = λ k g h. rw (to_z-of_z c.ranges.v) at (c.loop-i.invariant.1.clear k (omega arith) h) };
-    }
+returns g c = record { spot = none; entry_is = sym entry_of_none; last = record { clear = λ k a b. c.loop-i.invariant.1.clear k (omega arith) b } }

@@ -1,21 +1,17 @@
--- `nearest_values` meets its contract. The loop's invariant: the two values are the nearest of the samples passed, each of which has 32
--- bits. The measure is the places left.
-use Prim.Native.Nat.{ℕ, ◌≤◌, ◌<◌, ◌-◌}
-use mathlib.Core.Path.{◌≡◌}
-use lib.Signed.{le_z}
-use mir.Syntax.{w32}
-use mir.Val.{SFits}
+-- `nearest_values` meets its contract. The loop's invariant: the two values are the nearest of the samples passed, and none of these lies
+-- beyond the limits.
+use Rattle.std.proofs.Common.{◌≡◌, ◌<◌, map, ℕ, List, ℤ}
+use Rattle.std.specs.Int.Signed.{le_z}
 use Rattle.order.specs.Sizes.{at}
-use Rattle.tables.specs.Inside.Claims.{least, greatest}
-use Rattle.tables.specs.Inside.NearValues.{nearest_value}
+use Rattle.tables.specs.Inside.NearValues.{Within, nearest_value}
 use Rattle.tables.proofs.neighbours.nearest_values.Given as goal
 
 abbrev pub invariant-loop-i : goal.invariant-loop-i
-invariant-loop-i l =
-    (l.i ≤ l.j) ×
-    (l.below ≡ nearest_value le_z least l.pattern (at l.pattern l.j) l.i) ×
-    (l.above ≡ nearest_value (λ a b. le_z b a) greatest l.pattern (at l.pattern l.j) l.i) ×
-    ((k : ℕ) → k < l.i → SFits w32 (at l.pattern k))
-
-abbrev pub decreases-loop-i : goal.decreases-loop-i
-decreases-loop-i l = l.j - l.i
+invariant-loop-i g l =
+    let s = g.T.Sample in
+    let P : List ℤ = map s.value l.pattern in
+    record {
+      low_value : s.value l.below ≡ nearest_value le_z (s.value s.LEAST) P (at P l.j) l.i;
+      high_value : s.value l.above ≡ nearest_value (λ a b. le_z b a) (s.value s.GREATEST) P (at P l.j) l.i;
+      within : (k : ℕ) → k < l.i → Within (s.value s.LEAST) (s.value s.GREATEST) (at P k);
+    }

@@ -1,20 +1,21 @@
 -- `compare_tables` meets its contract: a neighbour table decides before a witness table does.
-use mathlib.Core.Path.{sym, ◌∙◌}
+use Rattle.std.proofs.lemmas.Result.{err_from_is_err_and}
 use Rattle.tables.proofs.ForeignEntries.{passed_own, neighbours_decide, witnesses_decide}
 use Rattle.tables.proofs.own_tables.compare_tables.Goals as goal
 
-pub returns-in_default : goal.returns-in_default
-returns-in_default c =
-    let a = c.args in
-    neighbours_decide a.pattern.now a.low.now a.high.now a.witness_i.now a.witness_j.now c.compare_neighbours-neighbours.ensures c.in_default.is
+pub returns-in_err-compare_neighbours : goal.returns-in_err-compare_neighbours
+returns-in_err-compare_neighbours c =
+    let a = c.args.tables in
+    let why = err_from_is_err_and c.from_residual.result c.from_residual.ensures.1 in
+    rw (why.1, why.2) (neighbours_decide a.pattern.now a.low.now a.high.now a.witness_i.now a.witness_j.now c.in_err-compare_neighbours.ensures)
 
-pub check_witnesses-requires-clause-neighbours : goal.check_witnesses-requires-clause-neighbours
-check_witnesses-requires-clause-neighbours c =
-    let a = c.args in
-    let r = c.requires in
-    passed_own a.pattern.now a.low.now a.high.now r.limit r.low_room r.high_room (sym c.in-Fine.is ∙ c.compare_neighbours-neighbours.ensures)
+pub check_witnesses-requires : goal.check_witnesses-requires
+check_witnesses-requires c =
+    let a = c.args.tables in
+    let r = a.room in
+    passed_own a.pattern.now a.low.now a.high.now r.limit r.low_room r.high_room c.in_ok-compare_neighbours.ensures
 
 pub returns : goal.returns
 returns c =
-    let a = c.args in
-    witnesses_decide a.pattern.now a.low.now a.high.now a.witness_i.now a.witness_j.now (sym c.in-Fine.is ∙ c.compare_neighbours-neighbours.ensures) c.check_witnesses.ensures
+    let a = c.args.tables in
+    witnesses_decide a.pattern.now a.low.now a.high.now a.witness_i.now a.witness_j.now c.in_ok-compare_neighbours.ensures c.check_witnesses.ensures
