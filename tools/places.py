@@ -260,5 +260,8 @@ def point_8():
     show(8, f"answers that name a value a second time (lines: {sum(k for _, k in alias)})", [f"{short(n)}: {k}" for n, k in alias])
 
 
-for p in points:
-    globals()[f"point_{p}"]()
+try:
+    for p in points:
+        globals()[f"point_{p}"]()
+except BrokenPipeError:  # whoever reads this has seen enough
+    sys.stderr.close()
