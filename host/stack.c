@@ -17,7 +17,7 @@
 
 #include "tension.h"
 
-/* Exported for the compiler's sake and in no header: docs/HOST.md tells why. */
+/* Exported and in no header: docs/HOST.md says what for. */
 uint64_t tension_search_large(const uint8_t *pattern, size_t pattern_bytes, const uint8_t *low, size_t low_bytes,
                               const uint8_t *high, size_t high_bytes, const uint8_t *witness_i, size_t witness_i_bytes,
                               const uint8_t *witness_j, size_t witness_j_bytes, const uint8_t *trace, size_t trace_bytes,
@@ -27,7 +27,7 @@ uint64_t tension_search_large(const uint8_t *pattern, size_t pattern_bytes, cons
 /*
  * Groups of calls, and what holds for each call of a group: it takes no more than `limit` bytes of stack, and of these it writes more
  * than `above` and, where `written` is not 0, no more than that. Searches are grouped by the size of their arrays, which are cleared
- * first. The two small sizes share a frame, so only the bytes that are written tell them apart.
+ * first. The two small sizes have one limit, so only the bytes that are written tell them apart.
  */
 enum {
     PREPARED, PREPARE_REFUSED,

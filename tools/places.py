@@ -244,7 +244,7 @@ def point_7():
     for name, fn, params, head, body in functions():
         if re.search(r"match \w+\([^)]*\) \{\s*\d+ =>|match \w+ \{\s*\d+ =>", body):
             found.append(f"{short(name)}: fn {fn}: a match on a number")
-        if re.search(r"Course::|course_of", body):
+        if re.search(r"Course::|course_of|match course\b", body):
             found.append(f"{short(name)}: fn {fn}: a match on the course")
     show(7, "switches on which step to run", found)
 

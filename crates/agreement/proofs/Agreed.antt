@@ -2,7 +2,7 @@
 -- Assumes nothing.
 use mathlib.Core.Path.{◌≡◌, refl, sym, ◌∙◌, ap}
 use mathlib.Core.List.{List}
-use Rattle.std.specs.Prelude.{Result, Ok, Err}
+use Rattle.std.specs.Prelude.{Result, Ok}
 use mathlib.Core.Bool.{Bool, true, false, ◌||◌}
 use Prim.Native.Nat.{ℕ}
 use native.Mathlib.Omega.{arith}
@@ -14,7 +14,7 @@ use Rattle.order.specs.Agree.{distance, agree_by_table}
 use Rattle.order.specs.Refusals.{agree_verdict}
 use Rattle.order.specs.declared.refusal.Refusal.{Refusal}
 use Rattle.order.specs.Answers.{answer_number, answer_place, answer_by}
-use Rattle.order.proofs.Answered.{done, unmet, numbered, placed, ok_accepted, err_refused}
+use Rattle.order.proofs.Answered.{done, numbered, placed, ok_accepted}
 use Rattle.agreement.specs.Answers.{says_agree}
 use Rattle.agreement.specs.Promises.{AgreePromise}
 
@@ -41,12 +41,6 @@ at_distance : (m a : ℕ) (wi : List ℕ) (x y : ℕ) → a ≡ distance x y →
     eqb a 0 || (leb m a || eqb (get_or wi a 0) no_place) ≡ agree_by_table m wi x y
 unfolding agree_by_table
 at_distance m a wi x y e = rw (e, together x y) refl
-
-pub agree-refused : (m : ℕ) (wi wj : List ℕ) (x y : ℕ) (why : Refusal) →
-    unmet why ≡ answer_by (agree_verdict m (length wi) (length wj)) tt → AgreePromise m wi wj x y (Err why)
-agree-refused m wi wj x y why e =
-    agree_promised m wi wj x y (Err why)
-    (ap (λ w. answer_by w (agree_by_table m wi x y)) (sym (err_refused (agree_verdict m (length wi) (length wj)) tt e)))
 
 pub agree_compared : (m a : ℕ) (wi wj : List ℕ) (x y : ℕ) {b : Bool} →
     done ≡ answer_by (agree_verdict m (length wi) (length wj)) tt → a ≡ distance x y →

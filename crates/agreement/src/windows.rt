@@ -18,7 +18,7 @@ fn agree_at(m: usize, witness_i: &[u16], offset: Offset) -> bool
 }
 
 // Whether windows x and y of a pattern of m samples agree, by its witness tables. Windows that start together agree, and no
-// entry is read for them.
+// entry is read for them. The tables are two slices, as callers keep them: of witness j the length alone is looked at, for refusal 3.
 pub fn agree(
     m: usize,
     witness_i: &[u16],

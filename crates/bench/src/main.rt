@@ -19,7 +19,8 @@ use std::io::Read;
 const INPUT_ROOM: usize = INPUT_LIMIT + 1;
 
 // Reads until the buffer is full, the input ends or a read fails, and answers how many bytes it put at the buffer's start. A loop of
-// `read`, since of the library's methods `read_exact` doesn't tell how many bytes there were before the end, and `read_to_end` needs a heap.
+// `read`, since of the library's methods `read_exact` doesn't tell how many bytes there were before the end, and `read_to_end` needs a
+// heap.
 fn read_full<R: Read>(input: &mut R, buffer: &mut [u8]) -> usize
     ensures { result ≤ length buffer.new }
 {

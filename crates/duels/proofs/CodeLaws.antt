@@ -1,5 +1,5 @@
--- Shows: relations kept as numbers tell what the relations tell, so that the codes of an offset tell whether its entries tell a witness, and a duel by them is the rules' duel; and a list of them is written
--- offset by offset, up to one that tells none.
+-- Shows: relations kept as numbers tell what the relations tell, so that the codes of an offset tell whether its entries tell a witness,
+-- and a duel by them is the rules' duel; and which tables can be fought with.
 -- Assumes nothing.
 use Prim.Native.Nat.{ℕ, zero, suc, ◌+◌, ◌≤◌, ◌<◌, max}
 use mathlib.Core.Path.{◌≡◌, refl, sym, ◌∙◌, ap, ap₂}
@@ -13,8 +13,7 @@ use mir.Val.{to_z, of_z, SFits, bool_byte}
 use mir.Facts.{to_z-of_z}
 use lib.Dec.{leb, ltb, eqb}
 use lib.IntN.{ℤ}
-use lib.ListN.{length, get_or, set, length-set}
-use lib.Seq.{get_or-set_same, get_or-set_other}
+use lib.ListN.{length, get_or}
 use borrow.Author.Tests.{eq-eqb, ne_eqb, eqb-true, eqb-false, leb-true, leb-false, ltb-true, lt-ltb, le-ltb, not-true}
 use Rattle.std.specs.declared.cmp.Ordering.{Ordering}
 use Rattle.std.specs.declared.cmp.Ordering.TheVariants.{Less, Equal, Greater}
@@ -26,9 +25,9 @@ use Rattle.duels.specs.DuelPromise.{tells_witness, untold_at}
 use Rattle.duels.specs.Inside.Asked.{Duelable}
 use Rattle.duels.specs.declared.answers.Unfought.TheVariants.{Untold}
 use Rattle.duels.specs.declared.codes.Codes.{Codes}
-use Rattle.duels.specs.Inside.Codes.{code, own_code_lem, start_code, CodesOf, empty, told, unseen, Coded, Looked, Stopped, NoneBelow}
+use Rattle.duels.specs.Inside.Codes.{code, own_code_lem, start_code, CodesOf, Coded, Looked, Stopped, NoneBelow}
 use Rattle.order.proofs.Tests.{clash, must_fail, and_first, and_second}
-use Rattle.order.proofs.Lists.{below_suc, finds_lowest}
+use Rattle.order.proofs.Lists.{finds_lowest}
 use Rattle.order.proofs.Orders.{lt_z_not_le_z, le_z_total, alike_same, alike_refl}
 
 -- ---- one relation
@@ -143,41 +142,10 @@ module _ (P : List ℤ) (a i j : ℕ) (l : length P ≤ pattern_limit) (g : a + 
 
   -- or otherwise
   pub told-looked : (older ≡ newer → ⊥) → Looked P a i j (Some (record { older = older; newer = newer }))
-  told-looked f = told (by_relations P a i j g h ∙ ap not (unlike (rel (at P i) (at P j)) (rel (at P (a + i)) (at P (a + j))) (λ q. f (eo ∙ sym (ap code q) ∙ sym en)))) eo en
-
--- a first entry that names a place
-pub some-told : {P : List ℤ} {a i j : ℕ} {c : Codes} → CodesOf P a i j c → (i ≡ no_place → ⊥)
-    → (tells_witness P a i j ≡ true) × (c.older ≡ own_code_lem P a i j) × (c.newer ≡ start_code P i j)
-some-told (empty e) f = absurd (f e)
-some-told (told e p q) f = (e, p, q)
-
--- ---- the codes of all offsets
-
-pub none_coded : (P : List ℤ) (wi wj : List ℕ) (codes : List Codes) → length P ≤ length codes → Coded P wi wj codes 0
-none_coded P wi wj codes h = record { long = h; each = λ a g. absurd (omega arith) }
-
--- one offset more
-pub one_coded : {P : List ℤ} {wi wj : List ℕ} {codes : List Codes} {a : ℕ} {c : Codes} → Coded P wi wj codes a → a < length P
-    → CodesOf P a (get_or wi a 0) (get_or wj a 0) c → Coded P wi wj (set codes a c) (a + 1)
-one_coded {P} {wi} {wj} {codes} {a} {c} d h e =
-    let o = d.long in
-    record {
-      long = omega (arith, length-set codes a c);
-      each = λ k g. go k g (eqb k a) refl;
-    }
-  where
-    go : (k : ℕ) → k < a + 1 → (t : Bool) → eqb k a ≡ t → CodesOf P k (get_or wi k 0) (get_or wj k 0) (get_or (set codes a c) k unseen)
-    go k g true q =
-        let s : k ≡ a = eqb-true k a q in
-        let o = d.long in
-        rw (s, get_or-set_same codes a c unseen (omega arith)) e
-    go k g false q =
-        let n : k ≡ a → ⊥ = eqb-false k a q in
-        rw (get_or-set_other codes a k c unseen n) (d.each k (omega (arith, n)))
-
--- up to the pattern's end
-pub all_coded : {P : List ℤ} {wi wj : List ℕ} {codes : List Codes} {n : ℕ} → Coded P wi wj codes n → length P ≤ n → Coded P wi wj codes (length P)
-all_coded c h = record { long = c.long; each = λ k g. c.each k (omega arith) }
+  told-looked f =
+      record {
+        told = λ n. (by_relations P a i j g h ∙ ap not (unlike (rel (at P i) (at P j)) (rel (at P (a + i)) (at P (a + j))) (λ q. f (eo ∙ sym (ap code q) ∙ sym en))), eo, en);
+      }
 
 -- ---- tables that can be fought with
 
@@ -195,8 +163,11 @@ unfolding untold_at
 told-clear P wi wj a e = and-false (not (eqb (get_or wi a 0) no_place)) (not (tells_witness P a (get_or wi a 0) (get_or wj a 0))) (ap not e)
 
 coded-clear : (P : List ℤ) (wi wj : List ℕ) (a : ℕ) {c : Codes} → CodesOf P a (get_or wi a 0) (get_or wj a 0) c → untold_at P wi wj a ≡ false
-coded-clear P wi wj a (empty e) = none_clear P wi wj a e
-coded-clear P wi wj a (told e p q) = told-clear P wi wj a e
+coded-clear P wi wj a {c} d = go (eqb (get_or wi a 0) no_place) refl
+  where
+    go : (t : Bool) → eqb (get_or wi a 0) no_place ≡ t → untold_at P wi wj a ≡ false
+    go true e = none_clear P wi wj a (eqb-true (get_or wi a 0) no_place e)
+    go false e = told-clear P wi wj a (d.told (eqb-false (get_or wi a 0) no_place e)).0
 
 -- the lowest that is
 pub all_clear : (P : List ℤ) (wi wj : List ℕ) → ((a : ℕ) → a < length P → untold_at P wi wj a ≡ false) → lowest (untold_at P wi wj) (length P) ≡ none
@@ -219,19 +190,7 @@ stopped_there {P} {wi} {wj} {a = a} c h n =
           (record { below = h; here = rw (ne_eqb (get_or wi a 0) no_place n.0, n.1) refl; earlier = λ i k. coded-clear P wi wj i (c.each i k) });
     }
 
-pub none_so_far : (wi : List ℕ) → NoneBelow wi 0
-none_so_far wi = record { none = λ a h. absurd (omega arith) }
-
-pub one_none : {wi : List ℕ} {a : ℕ} → NoneBelow wi a → get_or wi a 0 ≡ no_place → NoneBelow wi (a + 1)
-one_none {wi} {a} n e = record { none = λ k h. below_suc (λ k. get_or wi k 0 ≡ no_place) a n.none e k (let g : k < a + 1 = h in omega arith) }
-
 -- ---- the machine's two tests
-
-pub two_bytes : (s t : Bool) → bool_byte s + bool_byte t < 256
-two_bytes true true = omega arith
-two_bytes true false = omega arith
-two_bytes false true = omega arith
-two_bytes false false = omega arith
 
 by_tests : (t s : Bool) → (t ≡ false → s ≡ true) → bool_byte s + bool_byte (not t) ≡ code (cond t (cond s Equal Less) Greater)
 by_tests true true f = refl

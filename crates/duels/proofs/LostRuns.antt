@@ -1,4 +1,5 @@
--- Shows: where a run of windows without a lost stitch ends, and that the windows behind it, up to the stitch that ends it, all hold that stitch.
+-- Shows: where a run of windows without a lost stitch ends, and that the windows behind it, up to the stitch that ends it, all hold that
+-- stitch.
 -- Assumes nothing.
 use Prim.Native.Nat.{ℕ, ◌+◌, ◌-◌, ◌≤◌, ◌<◌, min}
 use mathlib.Core.Path.{◌≡◌, refl, sym, ◌∙◌, ap}

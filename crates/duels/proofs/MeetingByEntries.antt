@@ -2,11 +2,11 @@
 -- none, and otherwise duel inside the pattern. Where no entry names a place, all windows agree.
 -- Assumes nothing.
 use Prim.Native.Nat.{ℕ, ◌+◌, ◌-◌, ◌≤◌, ◌<◌}
-use mathlib.Core.Path.{◌≡◌, refl, sym, ◌∙◌, ap₂, subst}
+use mathlib.Core.Path.{◌≡◌, refl, sym, ◌∙◌, ap₂}
 use mathlib.Core.List.{List}
 use mathlib.Core.Bool.{Bool, true, false}
 use native.Mathlib.Omega.{arith}
-use Rattle.std.specs.Prelude.{None, Some}
+use Rattle.std.specs.Prelude.{None}
 use lib.Dec.{leb}
 use lib.IntN.{ℤ}
 use lib.ListN.{length, get_or}
@@ -18,7 +18,7 @@ use Rattle.order.specs.Duels.{duel}
 use Rattle.duels.specs.DuelPromise.{tells_witness, meeting_by_entries, meets_by}
 use Rattle.duels.specs.Inside.Asked.{Duelable}
 use Rattle.duels.specs.declared.codes.Codes.{Codes}
-use Rattle.duels.specs.Inside.Codes.{Coded, NoneBelow}
+use Rattle.duels.specs.Inside.Codes.{NoneBelow}
 use Rattle.duels.specs.Inside.Stacks.{AllAgree, Way}
 use Rattle.duels.proofs.CodeLaws.{witness_told}
 
@@ -58,7 +58,3 @@ none_apart P wi wj T n = record { agreeing = λ x y. go x y (leb (length P) (y -
 
 pub no_codes : {A : Type 0} {P : List ℤ} {wi wj : List ℕ} {T : List ℤ} {now : A → List Codes} → AllAgree (meets_by P wi wj T) → Way P wi wj T None now
 no_codes a = record { agreeing = λ e. a; coded = λ c e. cc }
-
-pub some_codes : {A : Type 0} {P : List ℤ} {wi wj : List ℕ} {T : List ℤ} {now : A → List Codes} {c : A} → Coded P wi wj (now c) (length P) → Way P wi wj T (Some c) now
-some_codes {A = A} {P} {wi} {wj} {now = now} {c} k =
-    record { agreeing = λ e. cc; coded = λ d e. let same : c ≡ d = cc in subst (λ (x : A). Coded P wi wj (now x) (length P)) same k }

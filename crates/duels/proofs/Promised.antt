@@ -30,14 +30,13 @@ use Rattle.duels.specs.declared.answers.Duelled.{Duelled}
 use Rattle.duels.specs.declared.answers.Unfought.{Unfought}
 use Rattle.duels.specs.declared.answers.Unfought.TheVariants.{Refused}
 use Rattle.duels.specs.DuelPromise.{untold_at, meets_by, stack_by, duel_verdict, duels_number, duels_place, duels_by, after_duels, duelled_of, DuelPromise}
-use Rattle.duels.specs.Inside.Codes.{Stopped}
 use Rattle.duels.specs.Inside.Stacks.{top, pushed_run, enters, ArrivedOf, SameBehind, AllAgree, AllFree, KeptOf, Fought}
 use Rattle.duels.proofs.StackLaws.{length-top, reverse-top, few_arrived, at_first, standing_as, run_written, same_run}
 use Rattle.duels.proofs.LostRuns.{none_struck}
 
 -- ---- the buffer
 
-module _ (P : List ℤ) (wi wj : List ℕ) (T : List ℤ) {before after : List ℕ} {windows : ℕ} {w : Arrived} (e : windows ≡ windows_of (length P) (length T)) (s : ArrivedOf P wi wj T after windows w) (same : SameBehind (windows_of (length P) (length T)) before after) where
+module _ (P : List ℤ) (wi wj : List ℕ) (T : List ℤ) {before after : List ℕ} {windows : ℕ} {w : Arrived} (e : windows ≡ windows_of (length P) (length T)) (s : ArrivedOf P wi wj T after windows w) (same : SameBehind windows before after) where
   stack_is : stack_by P wi wj T ≡ stacked (top after w.kept) (w.windows - w.kept - w.both)
   unfolding stack_by entrants
   stack_is = rw e at s.stack
@@ -66,7 +65,7 @@ module _ (P : List ℤ) (wi wj : List ℕ) (T : List ℤ) {before after : List �
         count = omega arith;
         written = subst (λ (n : ℕ). end ≡ over (filled (reverse (stack_by P wi wj T).kept) n) before) e
             (written_out (reverse (stack_by P wi wj T).kept) before after w.kept windows kept-first
-            (kept_number ∙ sym (length-reverse (stack_by P wi wj T).kept)) (omega arith) (rw (← e) at same.beyond) u);
+            (kept_number ∙ sym (length-reverse (stack_by P wi wj T).kept)) (omega arith) same.beyond u);
       }
     where
       told : {p q r p' q' r' : ℕ} → p ≡ p' → q ≡ q' → r ≡ r' → ◌≡◌ {A = Duelled} (record { kept = p; fought = q; struck = r }) (record { kept = p'; fought = q'; struck = r' })
@@ -78,7 +77,7 @@ pub all_up : (P : List ℤ) (wi wj : List ℕ) (T : List ℤ) {before after : Li
 all_up P wi wj T {before} {after} {windows} e h all f =
     let s = run_written all (at_first (meets_by P wi wj T) (enters P T) before) (omega arith) (λ x g k. ap not (none_struck P T f.free x)) (omega arith) (f.pushed ∙ ap (pushed_run before 0 0) (sym (sub-zero windows))) in
     let t : ArrivedOf P wi wj T after windows (record { windows = windows; kept = windows; both = 0 }) = standing_as s refl (omega arith) (omega arith) refl in
-    let same : SameBehind (windows_of (length P) (length T)) before after = rw f.pushed (same_run before 0 0 windows (omega arith)) in
+    let same : SameBehind windows before after = rw f.pushed (same_run before 0 0 windows (omega arith)) in
     let none : windows - windows ≡ 0 = omega arith in
     let d : windows - windows - 0 ≡ 0 = omega arith in
     rw none at (rw d at (filled_up P wi wj T {before = before} e t same {end = after} h (sym (rw none (take-append-drop windows after)))))
@@ -106,9 +105,6 @@ module _ {P : List ℤ} {wi wj : List ℕ} {T : List ℤ} {before : List ℕ} wh
         written = k.written;
         bound = λ c g. let same : d ≡ c = cc in subst (λ (u : Duelled). u.fought + u.kept + u.struck ≤ windows_of (length P) (length T)) same k.count;
       }
-
-  pub not-fought : {why : Unfought} → Stopped P wi wj why → Fought P wi wj T before before (Err why)
-  not-fought s = record { answer = rw (s.first, s.is) refl; written = refl; bound = λ c g. absurd (let z : ◌≡◌ {A = ℕ} 0 1 = cc in omega arith) }
 
 -- ---- the conditions
 
@@ -171,20 +167,18 @@ module _ (P : List ℤ) (wi wj : List ℕ) (T : List ℤ) (before : List ℕ) wh
       fit : (room_verdict (length P) (length T) (length before) (length before) accepted ≡ accepted) × (windows ≡ windows_of (length P) (length T))
       fit = ok_accepted _ _ l
 
-      pub duels_ready : (windows_of (length P) (length T) ≤ length before) × (windows ≡ windows_of (length P) (length T)) × (0 < length P)
-      unfolding agree_verdict
-      duels_ready =
-          let v = (ok_accepted (agree_verdict (length P) (length wi) (length wj)) (tt {0}) t).0 in
-          ((room_passed (length P) (length T) (length before) (length before) accepted fit.0).1, fit.1, (pattern_passed (length P) _ v).0)
-
       -- what the windows duel by
-      pub field_ready : (length P ≤ pattern_limit) × (length P ≤ length wi) × (length P ≤ length wj) × (length T ≤ trace_limit)
+      pub field_ready : (0 < length P) × (length P ≤ pattern_limit) × (length P ≤ length wi) × (length P ≤ length wj) × (length T ≤ trace_limit) × (windows ≡ windows_of (length P) (length T))
       unfolding agree_verdict
       field_ready =
           let v = (ok_accepted (agree_verdict (length P) (length wi) (length wj)) (tt {0}) t).0 in
           let a = pattern_passed (length P) _ v in
           let b = witnesses_passed (length P) (length wi) (length wj) accepted a.2 in
-          (a.1, b.0, b.1, (room_passed (length P) (length T) (length before) (length before) accepted fit.0).0)
+          (a.0, a.1, b.0, b.1, (room_passed (length P) (length T) (length before) (length before) accepted fit.0).0, fit.1)
+
+      -- and the room for them
+      pub room_ready : windows ≤ length before
+      room_ready = rw fit.1 (room_passed (length P) (length T) (length before) (length before) accepted fit.0).1
 
       unnumbered : (s : Spot) (d : Duelled) → duels_number (duels_by accepted s d) ≡ 0
       unnumbered none d = refl

@@ -1,5 +1,5 @@
--- Shows: the survivors buffer is the rules' stack at every step of the duels, over any outcome of meetings and any choice of the windows that
--- arrive: what a look at its top leaves, what an arrival leaves, a window that does not arrive, and a run of windows that all agree.
+-- Shows: the survivors buffer is the rules' stack at every step of the duels, over any outcome of meetings and any choice of the windows
+-- that arrive: what a look at its top leaves, what an arrival leaves, a window that does not arrive, and a run of windows that all agree.
 -- Assumes nothing.
 use Prim.Native.Nat.{ℕ, zero, suc, ◌+◌, ◌-◌, ◌≤◌, ◌<◌}
 use mathlib.Core.Path.{◌≡◌, refl, sym, ◌∙◌, ap, ap₂, subst}
@@ -9,8 +9,10 @@ use mathlib.Core.Bool.{Bool, true, false, cond}
 use native.Mathlib.Omega.{arith}
 use native.Mathlib.Numerals.{add-one}
 use native.Mathlib.Nat.{eq-or-lt_of_le, le_of_suc-le-suc}
-use lib.ListN.{length, get_or, take, set, length-set, length-append}
-use lib.Seq.{get_or-set_same, get_or-set_other, drop-set-lt, take-suc}
+use lib.ListN.{length, get_or, take, drop, set, length-set, length-append, length-drop}
+use lib.Seq.{get_or-set_same, get_or-set_other, drop-set-lt, take-suc, length-take-le}
+use borrow.Rule.Slice.PartMut.{mid_of, post_of, put_mid, put_same, mid_len}
+use Rattle.std.proofs.lemmas.List.{set-append_left, set-append_right}
 use Rattle.order.specs.declared.steps.Meeting.{Meeting}
 use Rattle.order.specs.declared.steps.Meeting.TheVariants.{Agree, OlderFalls, NewerFalls, BothFall}
 use Rattle.order.specs.Sizes.{those}
@@ -262,10 +264,40 @@ run_more l k x n = rw add-one refl
 pub all_more : (l : List ℕ) (n : ℕ) → pushed_run l 0 0 (n + 1) ≡ set (pushed_run l 0 0 n) n n
 all_more l n = let same : 0 + n ≡ n = omega arith in run_more l 0 0 n ∙ ap (λ k. set (pushed_run l 0 0 n) k k) same
 
+-- and from the first entry on, whatever the window
+pub part_more : (l : List ℕ) (x n : ℕ) → pushed_run l 0 x (n + 1) ≡ set (pushed_run l 0 x n) n (x + n)
+part_more l x n = let same : 0 + n ≡ n = omega arith in run_more l 0 x n ∙ ap (λ k. set (pushed_run l 0 x n) k (x + n)) same
+
 pub length_run : (l : List ℕ) (k x n : ℕ) → length (pushed_run l k x n) ≡ length l
 unfolding pushed_run
 length_run l k x zero = refl
 length_run l k x (suc n) = length-set (pushed_run l k x n) (k + n) (x + n) ∙ length_run l k x n
+
+-- a store into a part of a list is one as far on in the whole
+put_set : (a n j : ℕ) (xs ys : List ℕ) (v : ℕ) → a ≤ length xs → j < length ys → put_mid a n xs (set ys j v) ≡ set (put_mid a n xs ys) (a + j) v
+put_set a n j xs ys v h g =
+    let here : a + j - a ≡ j = omega arith in
+    sym
+    (set-append_right (take a xs) (ys ++ post_of a n xs) a (a + j) v (length-take-le a xs h) (omega arith) ∙
+    ap (λ zs. take a xs ++ zs) (ap (λ i. set (ys ++ post_of a n xs) i v) here ∙ set-append_left ys (post_of a n xs) j v g))
+
+-- a run written into the part of a list from entry k on is written into the list
+pub run_part : (l : List ℕ) (k x n j : ℕ) → k + n ≤ length l → j ≤ n → put_mid k n l (pushed_run (mid_of k n l) 0 x j) ≡ pushed_run l k x j
+unfolding pushed_run
+run_part l k x n zero h g = put_same k n l
+run_part l k x n (suc j) h g =
+    let first : 0 + j ≡ j = omega arith in
+    let rest = length-drop k l in
+    let long = length_run (mid_of k n l) 0 x j ∙ length-take-le n (drop k l) (omega arith) in
+    ap (λ i. put_mid k n l (set (pushed_run (mid_of k n l) 0 x j) i (x + j))) first ∙
+    put_set k n j l (pushed_run (mid_of k n l) 0 x j) (x + j) (omega arith) (omega arith) ∙
+    ap (λ t. set t (k + j) (x + j)) (run_part l k x n j h (omega arith))
+
+-- and one that fills the part
+pub run_put : (l : List ℕ) (k x n : ℕ) {part : List ℕ} → k + n ≤ length l → part ≡ pushed_run (mid_of k (k + n - k) l) 0 x (length (mid_of k (k + n - k) l)) → put_mid k (k + n - k) l part ≡ pushed_run l k x n
+run_put l k x n h e =
+    let same : k + n - k ≡ n = omega arith in
+    ap (put_mid k (k + n - k) l) (e ∙ ap (pushed_run _ 0 x) (mid_len k (k + n) l h ∙ same)) ∙ run_part l k x (k + n - k) n (omega arith) (omega arith)
 
 pub run_kept : {meet : ℕ → ℕ → Meeting} → AllAgree meet → {q : ℕ → Bool} {l : List ℕ} {y a k b : ℕ} → Standing meet q l y a k b → (n : ℕ) → ((x : ℕ) → y ≤ x → x < y + n → q x ≡ true)
     → k + n ≤ length l → Standing meet q (pushed_run l k y n) (y + n) (a + n) (k + n) b
@@ -306,9 +338,6 @@ pub record Running (meet : ℕ → ℕ → Meeting) (q : ℕ → Bool) (n from p
   pub standing : Standing meet q l y (a₀ + (y - from)) k b
   pub behind : SameBehind n before l
 
-pub run_begun : {meet : ℕ → ℕ → Meeting} {q : ℕ → Bool} {l : List ℕ} {from a₀ k b : ℕ} (n past : ℕ) → from ≤ past → Standing meet q l from a₀ k b → Running meet q n from past l l a₀ k b from
-run_begun {l = l} n past h s = record { begun = omega arith; within = h; standing = standing_as s refl (omega arith) refl refl; behind = same_first n l }
-
 module _ {meet : ℕ → ℕ → Meeting} {q : ℕ → Bool} {n from past : ℕ} {before l : List ℕ} {a₀ k₀ b₀ y : ℕ} (r : Running meet q n from past before l a₀ k₀ b₀ y) (h : y < past) (e : q y ≡ true) where
   pub run_dropped : {k b : ℕ} → Settled meet l y (a₀ + (y - from)) k₀ b₀ k b Dropped → Running meet q n from past before l a₀ k b (y + 1)
   run_dropped t =
@@ -328,9 +357,3 @@ module _ {meet : ℕ → ℕ → Meeting} {q : ℕ → Bool} {n from past : ℕ}
         standing = standing_as (pushed_next r.standing e (omega arith) t) refl (omega arith) refl refl;
         behind = same_set k y (omega arith) r.behind;
       }
-
-pub run_ended : {meet : ℕ → ℕ → Meeting} {q : ℕ → Bool} {n from past : ℕ} {before l : List ℕ} {a₀ k b y : ℕ} → Running meet q n from past before l a₀ k b y → past ≤ y → Standing meet q l past (a₀ + (past - from)) k b
-run_ended {past = past} {y = y} r h =
-    let w = r.within in
-    let end : y ≡ past = omega arith in
-    standing_as r.standing end (omega arith) refl refl

@@ -1,12 +1,12 @@
-// A run of windows, none of which holds a lost stitch, arrives in order. Each window duels with the top of a stack of kept windows until the
-// two agree or it falls.
+// A run of windows, none of which holds a lost stitch, arrives in order. Each window duels with the top of a stack of kept windows until
+// the two agree or it falls.
 //
-// Follows docs/RULES.md, "Duels" (Jargalsaikhan 2022, section 3, counted from zero). A duel is one comparison of the trace. The stack is the
-// survivors buffer itself. Where all windows agree there are no duels, and a window costs a store. Callers hand over a buffer with room
-// for every window, and how the pattern compares at each witness (codes.rt).
+// Follows docs/RULES.md, "Duels" (Jargalsaikhan 2022, section 3, counted from zero). A duel is one comparison of the trace. The stack is
+// the survivors buffer itself. Where all windows agree there are no duels, and a window costs a store. Callers hand over a buffer with
+// room for every window, and how the pattern compares at each witness (codes.rt).
 
-ghost use Rattle.std.specs.Prelude.{◌≡◌, false, length, ◌+◌, ◌-◌, ◌≤◌};
-ghost use Rattle.order.specs.Sizes.{trace_limit, windows_of};
+ghost use Rattle.std.specs.Prelude.{◌≡◌, false, length, ◌+◌, ◌≤◌};
+ghost use Rattle.order.specs.Sizes.{trace_limit};
 ghost use Rattle.order.specs.Duels.{duel as duel_of};
 ghost use Rattle.stitches.specs.Inside.{FreeWithin};
 ghost use Rattle.duels.specs.DuelPromise.{meets_by};
@@ -26,7 +26,7 @@ pub(crate) struct Arrived {
     pub both: usize,
 }
 
-// Whether an arriving window ends on the stack. An enum, and the loops below labelled: the form that the project's document asks for.
+// Whether an arriving window ends on the stack. An enum, and the loops below labelled: docs/PROMISES.md, "Forms", names this form.
 #[derive(Clone, Copy)]
 enum Arrival {
     Pushed,
@@ -75,7 +75,8 @@ impl<'a> Field<'a> {
     }
 
     // The windows from `from` up to `past` arrive, on the stack that those before them left. Each duel drops one window, or both: so the
-    // duels fought are the windows dropped less those where both fell, and only these are counted on the way.
+    // duels fought are the windows dropped less those where both fell, and only these are counted on the way. The stack is the host's
+    // buffer and `kept`: `Arrived` carries it from run to run.
     pub(crate) fn duel_run(
         self,
         codes: &[Codes],
@@ -84,8 +85,8 @@ impl<'a> Field<'a> {
         before: Arrived,
         survivors: &mut [u32],
     ) -> Arrived
-        requires { (windows_of (length self.pattern.now) (length self.trace.now) ≤ length survivors.old) × Coded self.pattern.now self.witness_i.now self.witness_j.now codes.now (length self.pattern.now) × RunAhead self.pattern.now self.trace.now from past × ArrivedOf self.pattern.now self.witness_i.now self.witness_j.now self.trace.now survivors.old from before }
-        ensures { ArrivedOf self.entry.pattern.now self.entry.witness_i.now self.entry.witness_j.now self.entry.trace.now survivors.new past result × SameBehind (windows_of (length self.entry.pattern.now) (length self.entry.trace.now)) survivors.old survivors.new }
+        requires { (self.windows ≤ length survivors.old) × Coded self.pattern.now self.witness_i.now self.witness_j.now codes.now (length self.pattern.now) × RunAhead self.pattern.now self.trace.now from past × ArrivedOf self.pattern.now self.witness_i.now self.witness_j.now self.trace.now survivors.old from before }
+        ensures { ArrivedOf self.entry.pattern.now self.entry.witness_i.now self.entry.witness_j.now self.entry.trace.now survivors.new past result × SameBehind self.entry.windows survivors.old survivors.new }
     {
         let mut kept = before.kept;
         let mut both = before.both;
@@ -122,26 +123,29 @@ impl<'a> Field<'a> {
     }
 }
 
-// The windows from `from` up to `past` arrive where all windows agree: every one is pushed, behind the `kept` entries before.
-pub(crate) fn keep_run(from: usize, past: usize, kept: usize, survivors: &mut [u32])
-    requires { (from ≤ past) × (past ≤ trace_limit + 1) × (kept + (past - from) ≤ length survivors.old) }
-    ensures { survivors.new ≡ pushed_run survivors.old kept from (past - from) }
+// The windows from `from` on arrive where all windows agree: every one is pushed, and fills an entry. `list_all` (frames) lists places so:
+// one function for both would be public, ask nothing of its callers, and promise of numbers past 32 bits what neither has a use for.
+pub(crate) fn keep_run(from: usize, entries: &mut [u32])
+    requires { from + length entries.old ≤ trace_limit + 1 }
+    ensures { entries.new ≡ pushed_run entries.old 0 from (length entries.old) }
 {
-    for k in 0..past - from {
-        survivors[kept + k] = (from + k) as u32;
+    for (k, entry) in entries.iter_mut().enumerate() {
+        *entry = (from + k) as u32;
     }
 }
 
 // Writes all windows down, whether they take part or not, and tells whether a sample is lost, from the first window's last one on, which is
-// `reach` samples after its start. Where there are no duels this is one pass, and a look for lost stitches by itself would be a second.
+// `reach` samples after its start. Where there are no duels this is one pass: with a look for lost stitches by itself, a search of 2,048
+// samples for a level or rising pattern of 4 took 1.11 of the time without it (docs/DECISIONS.md). It counts: over
+// `survivors[..windows].iter_mut().zip(..)` no invariant can name the entries, which are lent out, and the goal `returns` stays open.
 pub(crate) fn keep_all(trace: &[i32], reach: usize, windows: usize, survivors: &mut [u32]) -> bool
     requires { (reach + windows ≤ length trace.now) × (windows ≤ length survivors.old) × (length trace.now ≤ trace_limit) }
     ensures { (survivors.new ≡ pushed_run survivors.old 0 0 windows) × (result ≡ false → FreeWithin trace.now reach (reach + windows)) }
 {
     let mut lost = false;
-    for y in 0..windows {
+    for (y, sample) in trace[reach..reach + windows].iter().enumerate() {
         survivors[y] = y as u32;
-        lost = lost | (trace[reach + y] == LOST);
+        lost = lost | (*sample == LOST);
     }
     lost
 }

@@ -14,8 +14,8 @@ use crate::answers::Unfought;
 use crate::field::Field;
 use order::{NONE, Offset};
 
-// How a compares with b, as a number: 0 less, 1 equal, 2 greater. A number, since the machine adds it up from one comparison with no branch.
-// An Ordering takes it two steps more in each duel, with which searches of sawtooth traces took up to 1.12 of their time.
+// How a compares with b, as a number: 0 less, 1 equal, 2 greater. A number, since the machine adds it up from one comparison with no
+// branch. An Ordering takes it two steps more in each duel, with which searches of sawtooth traces took up to 1.12 of their time.
 pub(crate) fn code_between(a: i32, b: i32) -> u8
     ensures { result ≡ code (rel a b) }
 {
@@ -30,7 +30,7 @@ pub(crate) struct Codes {
 }
 
 impl Codes {
-    // Where the first entry is none nobody looks.
+    // Where the first entry is none nobody looks. No `Option`: there `meet` answers before it takes the codes.
     pub(crate) const UNSEEN: Codes = Codes { older: 0, newer: 0 };
 }
 
@@ -56,7 +56,9 @@ fn codes_of(pattern: &[i32], a: Offset, i: u16, j: u16) -> Option<Codes>
     Some(Codes { older, newer })
 }
 
-// Writes the codes of all offsets, or tells the first whose entries name a place and tell no witness.
+// Writes the codes of all offsets, or tells the first whose entries name a place and tell no witness. By number: the offset is told where
+// its entries tell no witness, and both tables may be longer than the codes. Over `codes.iter_mut().zip(..)` no invariant can name the
+// codes, which are lent out, and the goal `returns` stays open.
 pub(crate) fn write_codes<'a>(field: Field<'a>, codes: &mut [Codes]) -> Result<(), Unfought>
     requires { length codes.old ≡ length field.pattern.now }
     ensures { CodedTo field.entry.pattern.now field.entry.witness_i.now field.entry.witness_j.now codes.new result }
@@ -76,14 +78,15 @@ pub(crate) fn write_codes<'a>(field: Field<'a>, codes: &mut [Codes]) -> Result<(
 }
 
 // Whether no offset below m has an entry that names a place. It looks at all of them even after one that does: a loop that could end early
-// would take them one by one.
+// would take them one by one. Beside `holds_lost` (stitches): one for both would be public, generic in type and value, for a loop of one
+// line.
 pub(crate) fn none_told(witness_i: &[u16], m: usize) -> bool
     requires { m ≤ length witness_i.now }
     ensures { result ≡ true → NoneBelow witness_i.now m }
 {
     let mut all = true;
-    for a in 0..m {
-        all = all & (witness_i[a] == NONE);
+    for i in &witness_i[..m] {
+        all = all & (*i == NONE);
     }
     all
 }

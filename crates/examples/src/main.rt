@@ -1,7 +1,7 @@
 // Runs the worked examples of docs/RULES.md through the library's public calls and prints what each comes to. What it must
 // print, the file stdout, is written by hand from docs/RULES.md, "Examples"; the counts at the limits (k), which that page doesn't
 // give, are the reference program's. Takes what the calls take, one after the other. A write that fails
-// ends the program with an error.
+// ends the program with an error. A pattern's tables are four arrays, since `prepare` and `search` take four slices.
 
 #![tactic(auto)]
 
@@ -28,64 +28,84 @@ fn counts(rt: &impl Print, c: Counts) -> io::Result<()> {
     )
 }
 
+// At a line's end, as `refusal` of crates/replay says in other words.
 fn refusal(rt: &impl Print, why: Refusal) -> io::Result<()> {
     println!(rt; " refusal {} place {}", why.number(), why.place())
 }
 
-// Searches a trace by a pattern's tables, entry 3 of one of them altered if that is asked for, and prints the answer. Answers how many
-// windows it kept and how many it listed.
-fn run(
-    rt: &impl Print,
-    letter: &str,
-    pattern: &[i32],
-    trace: &[i32],
+// A search that an example makes: its letter, a pattern, a trace, and the table, if any, of which entry 3 is altered.
+#[derive(Clone, Copy)]
+struct Search<'a> {
+    letter: &'a str,
+    pattern: &'a [i32],
+    trace: &'a [i32],
     altered: Option<Table>,
-    survivors: &mut [u32],
-    positions: &mut [u32],
-) -> io::Result<(usize, usize)> {
-    let mut low = [0u16; 1025];
-    let mut high = [0u16; 1025];
-    let mut witness_i = [0u16; 1025];
-    let mut witness_j = [0u16; 1025];
-    // A pattern that is refused leaves the tables as they are.
-    let _ = tables::prepare(pattern, &mut low, &mut high, &mut witness_i, &mut witness_j);
-    match altered {
-        Some(Table::Low) => low[3] = 1,
-        Some(Table::High) => high[3] = 1,
-        Some(Table::WitnessI) => witness_i[3] = 1,
-        Some(Table::WitnessJ) => witness_j[3] = 1,
-        None => {}
+}
+
+impl Search<'_> {
+    // Searches, and prints the answer. Answers how many windows it kept and how many it listed.
+    fn run(
+        self,
+        rt: &impl Print,
+        survivors: &mut [u32],
+        positions: &mut [u32],
+    ) -> io::Result<(usize, usize)> {
+        let pattern = self.pattern;
+        let mut low = [0u16; 1025];
+        let mut high = [0u16; 1025];
+        let mut witness_i = [0u16; 1025];
+        let mut witness_j = [0u16; 1025];
+        // A pattern that is refused leaves the tables as they are.
+        let _ = tables::prepare(pattern, &mut low, &mut high, &mut witness_i, &mut witness_j);
+        match self.altered {
+            Some(Table::Low) => low[3] = 1,
+            Some(Table::High) => high[3] = 1,
+            Some(Table::WitnessI) => witness_i[3] = 1,
+            Some(Table::WitnessJ) => witness_j[3] = 1,
+            None => {}
+        }
+        print!(rt; "{}", self.letter)?;
+        match search::search(
+            pattern, &low, &high, &witness_i, &witness_j, self.trace, survivors, positions,
+        ) {
+            Ok(c) => {
+                counts(rt, c)?;
+                Ok((c.survivors as usize, c.found as usize))
+            }
+            Err(why) => {
+                refusal(rt, why)?;
+                Ok((0, 0))
+            }
+        }
     }
-    print!(rt; "{letter}")?;
-    match search::search(
-        pattern, &low, &high, &witness_i, &witness_j, trace, survivors, positions,
-    ) {
-        Ok(c) => {
-            counts(rt, c)?;
-            Ok((c.survivors as usize, c.found as usize))
-        }
-        Err(why) => {
-            refusal(rt, why)?;
-            Ok((0, 0))
-        }
+
+    // The answer, and both lists.
+    fn lists(self, rt: &impl Print) -> io::Result<()> {
+        let mut survivors = [0u32; 16];
+        let mut positions = [0u32; 16];
+        let (kept, found) = self.run(rt, &mut survivors, &mut positions)?;
+        list(rt, "  survivors", &survivors, kept)?;
+        list(rt, "  listed", &positions, found)
+    }
+
+    // The answer alone.
+    fn answer(self, rt: &impl Print) -> io::Result<()> {
+        let mut survivors = [0u32; 65536];
+        let mut positions = [0u32; 65536];
+        self.run(rt, &mut survivors, &mut positions)?;
+        Ok(())
     }
 }
 
 // Examples c to j and o: the answer, and both lists.
 fn example(rt: &impl Print, letter: &str, pattern: &[i32], trace: &[i32]) -> io::Result<()> {
-    let mut survivors = [0u32; 16];
-    let mut positions = [0u32; 16];
-    let (kept, found) = run(
-        rt,
+    Search {
         letter,
         pattern,
         trace,
-        None,
-        &mut survivors,
-        &mut positions,
-    )?;
-    list(rt, "  survivors", &survivors, kept)?;
-    list(rt, "  listed", &positions, found)
+        altered: None,
+    }
+    .lists(rt)
 }
 
 // Examples a and b: the four tables.
@@ -107,33 +127,15 @@ fn tables(rt: &impl Print) -> io::Result<()> {
     list(rt, "b witness j", &witness_j, 4)
 }
 
-// Examples k and m: the answer alone.
-fn answer(
-    rt: &impl Print,
-    letter: &str,
-    pattern: &[i32],
-    trace: &[i32],
-    altered: Option<Table>,
-) -> io::Result<()> {
-    let mut survivors = [0u32; 65536];
-    let mut positions = [0u32; 65536];
-    run(
-        rt,
-        letter,
+// Example k: the answer for a level pattern in a level trace.
+fn level(rt: &impl Print, pattern: &[i32], trace: &[i32]) -> io::Result<()> {
+    Search {
+        letter: "k",
         pattern,
         trace,
-        altered,
-        &mut survivors,
-        &mut positions,
-    )?;
-    Ok(())
-}
-
-// Example k: a level pattern of M samples in a level trace of N.
-fn sizes<const M: usize, const N: usize>(rt: &impl Print) -> io::Result<()>
-    requires { (M ≤ 65537) × (N ≤ 65537) }
-{
-    answer(rt, "k", &[0i32; M], &[0i32; N], None)
+        altered: None,
+    }
+    .answer(rt)
 }
 
 // Example l: a recording's bytes.
@@ -174,11 +176,12 @@ fn steep(rt: &impl Print) -> io::Result<()> {
 
 // Example k: the largest sizes that are accepted, and one more.
 fn limits(rt: &impl Print) -> io::Result<()> {
-    sizes::<1, 65536>(rt)?;
-    sizes::<4, 65536>(rt)?;
-    sizes::<1024, 65536>(rt)?;
-    sizes::<1025, 65536>(rt)?;
-    sizes::<1024, 65537>(rt)
+    let samples = [0i32; 65537];
+    level(rt, &samples[..1], &samples[..65536])?;
+    level(rt, &samples[..4], &samples[..65536])?;
+    level(rt, &samples[..1024], &samples[..65536])?;
+    level(rt, &samples[..1025], &samples[..65536])?;
+    level(rt, &samples[..1024], &samples)
 }
 
 // Example l: no sample, a trailer cut short, and a product that does not fit 32 bits.
@@ -190,7 +193,13 @@ fn recordings(rt: &impl Print) -> io::Result<()> {
 
 // Example m: entry 3 of a table altered.
 fn foreign(rt: &impl Print, table: Table) -> io::Result<()> {
-    answer(rt, "m", &[4i32, 9, 6, 6], &[5i32, 8, 6, 6], Some(table))
+    Search {
+        letter: "m",
+        pattern: &[4i32, 9, 6, 6],
+        trace: &[5i32, 8, 6, 6],
+        altered: Some(table),
+    }
+    .answer(rt)
 }
 
 // Example m, table by table.
@@ -201,32 +210,29 @@ fn foreigners(rt: &impl Print) -> io::Result<()> {
     foreign(rt, Table::WitnessJ)
 }
 
-// Example n: samples written into a buffer of N bytes, all 170, of which k are in use. All its bytes are shown after it.
-fn written_into<const N: usize>(rt: &impl Print, k: usize, samples: &[i32]) -> io::Result<()>
-    requires { N ≤ 65537 }
-{
-    let mut buffer = [170u8; N];
+// Example n: samples written into a buffer of which k bytes are in use, as `recording::write` takes them. All its bytes are shown after it.
+fn written_into(rt: &impl Print, buffer: &mut [u8], k: usize, samples: &[i32]) -> io::Result<()> {
     print!(rt; "n")?;
-    match recording::write(&mut buffer, k, samples) {
+    match recording::write(buffer, k, samples) {
         Ok(end) => print!(rt; " length {end}\n")?,
         Err(why) => refusal(rt, why)?,
     }
-    list(rt, "  bytes", &buffer, N)
+    list(rt, "  bytes", buffer, buffer.len())
 }
 
-// Example n: with bytes before and behind it, in just its room, and refused.
+// Example n: with bytes before and behind it, in just its room, and refused. What lies in a buffer is 170.
 fn writings(rt: &impl Print) -> io::Result<()> {
-    written_into::<17>(rt, 1, &[-2i32])?;
-    written_into::<18>(rt, 1, &[-2i32])?;
-    written_into::<16>(rt, 1, &[-2i32])?;
-    written_into::<16>(rt, 0, &[-2147483648i32])?;
-    written_into::<12>(rt, 0, &[0i32; 0])?;
-    written_into::<11>(rt, 0, &[0i32; 0])?;
-    written_into::<4>(rt, 4, &[0i32; 0])?;
+    written_into(rt, &mut [170u8; 17], 1, &[-2i32])?;
+    written_into(rt, &mut [170u8; 18], 1, &[-2i32])?;
+    written_into(rt, &mut [170u8; 16], 1, &[-2i32])?;
+    written_into(rt, &mut [170u8; 16], 0, &[-2147483648i32])?;
+    written_into(rt, &mut [170u8; 12], 0, &[0i32; 0])?;
+    written_into(rt, &mut [170u8; 11], 0, &[0i32; 0])?;
+    written_into(rt, &mut [170u8; 4], 4, &[0i32; 0])?;
     // One sample more than a recording may have.
-    written_into::<4>(rt, 0, &[0i32; 65537])?;
-    written_into::<4>(rt, 5, &[0i32; 65537])?;
-    written_into::<17>(rt, 18446744073709551615, &[7i32])
+    written_into(rt, &mut [170u8; 4], 0, &[0i32; 65537])?;
+    written_into(rt, &mut [170u8; 4], 5, &[0i32; 65537])?;
+    written_into(rt, &mut [170u8; 17], 18446744073709551615, &[7i32])
 }
 
 // Example o: traces with lost stitches, which strike every window, or some.
@@ -238,7 +244,7 @@ fn lost(rt: &impl Print) -> io::Result<()> {
 
 // Example p: a pattern prepared into four tables of N entries.
 fn prepared_into<const N: usize>(rt: &impl Print, pattern: &[i32]) -> io::Result<()>
-    requires { N ≤ 65537 }
+    requires { N ≤ 1025 }
 {
     let mut low = [0u16; N];
     let mut high = [0u16; N];

@@ -6,7 +6,7 @@ use mathlib.Core.Path.{◌≡◌, refl, sym, ◌∙◌, ap, ap₂}
 use mathlib.Core.Logic.{◌↔◌}
 use mathlib.Core.Bool.{Bool, true, false, ◌||◌}
 use native.Mathlib.Omega.{arith}
-use native.Mathlib.Nat.{div-lt_iff_lt-mul, le-mul_of_pos_right, mul_comm, mul-le-mul}
+use native.Mathlib.Nat.{div-lt_iff_lt-mul, mul_comm, mul-le-mul}
 use lib.Dec.{ltb, eqb}
 use Rattle.std.specs.Prelude.{Result, Ok}
 use borrow.Author.Tests.{lt-ltb, le-ltb, ltb-true, ltb-false, eqb-false}
@@ -136,12 +136,6 @@ sizes_fit {samples} {height} {width} {pitch} {patch} {h} {k} {positions} e =
     }
 
 -- ---- products
-
-pub many_rows : (h k : ℕ) → patch_limit < h → 0 < k → true ≡ ltb patch_limit (h * k)
-many_rows h k a b = let c = le-mul_of_pos_right h b in sym (lt-ltb patch_limit (h * k) (omega arith))
-
-pub many_columns : (h k : ℕ) → patch_limit < k → 0 < h → true ≡ ltb patch_limit (h * k)
-many_columns h k a b = many_rows k h a b ∙ ap (ltb patch_limit) (mul_comm k h)
 
 pub sides_fit : (h k : ℕ) → h ≤ patch_limit → k ≤ patch_limit → h * k ≤ 1048576
 sides_fit h k a b = mul-le-mul a b

@@ -71,23 +71,9 @@ fn is_short_frame(samples: usize, height: usize, width: usize, pitch: usize) -> 
     (samples - width) / (height - 1) < pitch
 }
 
-// 25: a frame or a patch of too few samples.
-fn is_short(
-    samples: usize,
-    height: usize,
-    width: usize,
-    pitch: usize,
-    patch: usize,
-    h: usize,
-    k: usize,
-) -> bool
-    requires { (0 < height) × (h * k ≤ patch_limit) }
-    ensures { result ≡ (ltb samples (samples_needed height width pitch) || ltb patch (h * k)) }
-{
-    is_short_frame(samples, height, width, pitch) | (patch < h * k)
-}
-
-// At how many rows a patch of h is tried in a frame of so many; of columns likewise.
+// At how many rows a patch of h is tried in a frame of so many; of columns likewise. Beside `count_windows` (sizes): one for both would be
+// public, and n - m + 1 overflows for m = 0 and the greatest n.
+#[tactic(auto, using(order::proofs::Lists::windows_of_as))]
 fn tried(h: usize, height: usize) -> usize
     requires { height ≤ frame_limit }
     ensures { result ≡ windows_of h height }
@@ -98,7 +84,9 @@ fn tried(h: usize, height: usize) -> usize
     0
 }
 
-// The sizes of a frame and of a patch, and the lengths of the three buffers, in entries.
+// The sizes of a frame and of a patch, and the lengths of the three buffers, in entries. They are eight numbers, as `tension_frame` is
+// handed them: a struct of a frame or a patch could promise nothing of its sizes before they have been looked at here.
+#[tactic(auto, using(crate::proofs::FrameRows::no_zeros, crate::proofs::FrameRows::none_large, crate::proofs::FrameRows::sides_fit, crate::proofs::FrameRows::few_tried))]
 pub fn for_frame(
     samples: usize,
     height: usize,
@@ -120,7 +108,7 @@ pub fn for_frame(
     if pitch < width {
         return Err(Refusal::Unplaced(Fault::NarrowPitch));
     }
-    if is_short(samples, height, width, pitch, patch, h, k) {
+    if is_short_frame(samples, height, width, pitch) | (patch < h * k) {
         return Err(Refusal::Unplaced(Fault::ShortFrame));
     }
     let rows = tried(h, height);

@@ -1,9 +1,9 @@
 // A camera's frame as it lies in the driver's buffer, and the search in it: a struct that borrows the buffer beside the three numbers that
 // say how rows lie in it, so that a caller who has a frame passes one thing and not four.
 //
-// Follows docs/RULES.md, "Frames". Costs nothing beside the one call of the crate `frames`: no sample is copied, and what that call promises
-// of a buffer and three numbers is promised of the frame. A view is made of any buffer and any numbers: it is the search that looks at them,
-// and refuses those that don't fit. The two functions are thin, and the work is elsewhere.
+// Follows docs/RULES.md, "Frames". Costs nothing beside the one call of the crate `frames`: no sample is copied, and what that call
+// promises of a buffer and three numbers is promised of the frame. A view is made of any buffer and any numbers: it is the search that
+// looks at them, and refuses those that don't fit. The two functions are thin, and the work is elsewhere.
 
 #![tactic(auto)]
 
@@ -34,7 +34,8 @@ pub fn view<'a>(samples: &'a [u16], height: usize, width: usize, pitch: usize) -
     }
 }
 
-// Seeks a patch of h rows and k columns, packed, in a frame: the places are listed, or nothing is stored.
+// Seeks a patch of h rows and k columns, packed, in a frame: the places are listed, or nothing is stored. Patch, h and k come one by one,
+// as `search_frame` and `FramePromise` take them.
 pub fn search_view<'a>(
     frame: Frame<'a>,
     patch: &[u16],

@@ -128,8 +128,8 @@ places_ascend F height width pitch Q h k some =
 -- ---- what accepted sizes tell of the rows and columns tried
 
 pub inside_of : {samples height width pitch patch h k room rows columns : ℕ} {F : List ℕ} → SizesFit samples height width pitch patch h k room → samples ≡ length F
-    → rows ≡ windows_of h height → columns ≡ windows_of k width → (rows ≡ 0 → ⊥) → (columns ≡ 0 → ⊥) → PatchInside F pitch width h k rows columns room
-unfolding samples_needed places_of
+    → rows ≡ windows_of h height → columns ≡ windows_of k width → (rows ≡ 0 → ⊥) → (columns ≡ 0 → ⊥) → PatchInside F pitch width h k rows columns
+unfolding samples_needed
 inside_of {samples} {height} {width} {pitch} {patch} {h} {k} {room} {rows} {columns} {F} f l r c some any =
     let a = windows_of_as h height in
     let b = windows_of_as k width in
@@ -150,12 +150,27 @@ inside_of {samples} {height} {width} {pitch} {patch} {h} {k} {room} {rows} {colu
       few = f.patch_bound;
       wide_pitch = f.wide_pitch;
       last_row = let s = f.samples_there in rw last (omega arith);
-      enough_room = let s = f.room in let p : rows * columns ≡ windows_of h height * windows_of k width = ap₂ ◌*◌ r c in omega arith;
     }
   where
     above : (n : ℕ) → (n ≡ 0 → ⊥) → 0 < n
     above zero f = absurd (f refl)
     above (suc n) f = omega arith
+
+-- they fit whatever the room for the places, if it is enough
+pub fit_exactly : {samples height width pitch patch h k room : ℕ} → SizesFit samples height width pitch patch h k room → SizesFit samples height width pitch patch h k (places_of height width h k)
+fit_exactly f =
+    record {
+      some_width = f.some_width;
+      some_rows = f.some_rows;
+      some_columns = f.some_columns;
+      height_bound = f.height_bound;
+      width_bound = f.width_bound;
+      patch_bound = f.patch_bound;
+      wide_pitch = f.wide_pitch;
+      samples_there = f.samples_there;
+      patch_there = f.patch_there;
+      room = omega arith;
+    }
 
 -- ---- the promise
 
@@ -185,13 +200,12 @@ module _ (F : List ℕ) (height width pitch : ℕ) (Q : List ℕ) (h k : ℕ) (b
       ap (take (length list)) (e ∙ filled-over list before n g) ∙ take_at list (replicate (n - length list) unused ++ drop n before) (length list) refl
 
   -- the places, listed and filled up
-  pub places-written : {rows columns found : ℕ} {now after : List ℕ} → SizesFit (length F) height width pitch (length Q) h k (length before) → rows ≡ windows_of h height → columns ≡ windows_of k width
+  pub places-written : {rows columns found : ℕ} {now after : List ℕ} → rows * columns ≤ length before → rows ≡ windows_of h height → columns ≡ windows_of k width
       → RowsListed (matches_at F pitch Q h k) width columns rows before found now → length now ≡ length before
       → after ≡ take found now ++ (replicate (rows * columns - found) unused ++ drop (rows * columns) now)
       → PlacesWritten F height width pitch Q h k before found after
   unfolding places_listed places_of
-  places-written {rows} {columns} {found} {now} {after} fit r c w l e =
-      let few = fit.room in
+  places-written {rows} {columns} {found} {now} {after} room r c w l e =
       let places : rows * columns ≡ windows_of h height * windows_of k width = ap₂ ◌*◌ r c in
       let most = w.at_most in
       let are : take found now ≡ list = w.are ∙ ap₂ (λ a b. rows_listed (matches_at F pitch Q h k) width b a) r c in

@@ -8,12 +8,14 @@ use mathlib.Core.List.{List, [], ◌∷◌, ◌++◌, map, append_assoc, append-
 use mathlib.Core.Bool.{Bool, true, false, cond}
 use native.Mathlib.Omega.{arith}
 use native.Mathlib.Numerals.{add-one}
-use native.Mathlib.Nat.{mul-le-mul, mul-le-mul_right}
-use lib.ListN.{length, take, set, length-take}
-use lib.Seq.{take-set-le, take-suc-set, drop-set-lt}
+use native.Mathlib.Nat.{mul-le-mul_right}
+use lib.ListN.{length, take, drop, set, length-take, length-drop, drop_of_length-le}
+use lib.Seq.{take-set-le, take-suc-set, drop-set-lt, take_all, length-take-le, take-append-add, drop-append-add, drop-drop}
 use mir.Val.{bool_byte}
-use Rattle.order.specs.Sizes.{those}
-use Rattle.order.proofs.Lists.{those-suc}
+use borrow.Rule.Slice.PartMut.{mid_of, put_mid, mid_len}
+use Rattle.std.proofs.lemmas.Slice.{take-put_mid, drop-put_mid}
+use Rattle.order.specs.Sizes.{each, those}
+use Rattle.order.proofs.Lists.{those-suc, length-each}
 use Rattle.frames.proofs.RowNumbers.{next_row}
 use Rattle.frames.specs.declared.places.Step.{Step}
 use Rattle.frames.specs.Frames.{row_listed, rows_listed}
@@ -91,17 +93,46 @@ listed_all {t} {base} {found = found} {n} {before} {now} w e = subst (λ (m : �
 abbrev everywhere : ℕ → Bool
 everywhere i = true
 
-pub listed-first : (base found : ℕ) (before : List ℕ) → Listed everywhere base 0 found before (found + 0) before
-listed-first base found before = subst (λ (k : ℕ). Listed everywhere base 0 found before k before) (let e : found ≡ found + 0 = omega arith in e) (listed_none everywhere base found before)
+each_those : (base n : ℕ) → each (λ i. base + i) n ≡ shift base (those everywhere n)
+unfolding each those
+each_those base zero = refl
+each_those base (suc n) = ap (λ l. l ++ ((base + n) ∷ [])) (each_those base n) ∙ sym (map-append (λ i. base + i) (those everywhere n) (n ∷ []))
 
-pub listed_one : {base i found : ℕ} {before now : List ℕ} → Listed everywhere base i found before (found + i) now → found + i < length now
-    → Listed everywhere base (i + 1) found before (found + (i + 1)) (set now (found + i) (base + i))
-listed_one {base} {i} {found} {before} {now} w h =
-    subst (λ (k : ℕ). Listed everywhere base (i + 1) found before k (set now (found + i) (base + i))) (let e : found + i + 1 ≡ found + (i + 1) = omega arith in e)
-    (listed_more true w refl h)
+pub listed_each : {base n : ℕ} {before entries : List ℕ} → n ≤ length before → entries ≡ each (λ i. base + i) (length (mid_of 0 (n - 0) before))
+    → Listed everywhere base n 0 before n (put_mid 0 (n - 0) before entries)
+listed_each {base} {n} {before} {entries} h e =
+    let long : length (mid_of 0 (n - 0) before) ≡ n = mid_len 0 n before h ∙ (let z : n - 0 ≡ n = omega arith in z) in
+    let all : entries ≡ each (λ i. base + i) n = e ∙ ap (each (λ i. base + i)) long in
+    let number : length entries ≡ n = ap length all ∙ length-each (λ i. base + i) n in
+    record {
+      grown = take-put_mid 0 (n - 0) before entries n (omega arith) (omega arith) ∙ all ∙ each_those base n;
+      at_most = omega arith;
+      beyond = λ f g. drop-put_mid 0 (n - 0) before entries f (omega arith) (omega arith) (omega arith);
+    }
 
-pub listed-whole : {base i n found : ℕ} {before now : List ℕ} → Listed everywhere base i found before (found + i) now → i ≡ n → Listed everywhere base n found before (found + n) now
-listed-whole {base} {found = found} {before} {now} w e = subst (λ (m : ℕ). Listed everywhere base m found before (found + m) now) e w
+-- what is listed in the entries behind a list, in the whole buffer
+pub listed_behind : {t : ℕ → Bool} {base n k r : ℕ} {now part : List ℕ} → k ≤ length now → Listed t base n 0 (mid_of k (length now - k) now) r part → Listed t base n k now (k + r) (put_mid k (length now - k) now part)
+listed_behind {t} {base} {n} {k} {r} {now} {part} h w =
+    record {
+      grown = ap (take (k + r)) whole ∙ ap (λ m. take (m + r) (take k now ++ part)) (sym long) ∙ take-append-add (take k now) part r ∙ ap (λ l. take k now ++ l) w.grown;
+      at_most = let m = w.at_most in omega arith;
+      beyond = λ e g.
+          let l = long in
+          let r = rest in
+          let there : e ≡ length (take k now) + (e - k) = omega arith in
+          let again : k + (e - k) ≡ e = omega arith in
+          ap (drop e) whole ∙ ap (λ m. drop m (take k now ++ part)) there ∙ drop-append-add (take k now) part (e - k) ∙ w.beyond (e - k) (omega arith) ∙
+          ap (drop (e - k)) (take_all (length now - k) (drop k now) (omega arith)) ∙ drop-drop (e - k) k now ∙ ap (λ m. drop m now) again;
+    }
+  where
+    long : length (take k now) ≡ k
+    long = length-take-le k now h
+
+    rest : length (drop k now) ≡ length now - k
+    rest = length-drop k now
+
+    whole : put_mid k (length now - k) now part ≡ take k now ++ part
+    whole = ap (λ l. take k now ++ (part ++ l)) (drop_of_length-le (drop k now) (let r = rest in omega arith)) ∙ ap (λ l. take k now ++ l) (append-nil part)
 
 -- a block behind what is listed
 pub listed_then : {t : ℕ → Bool} {base a n found k r : ℕ} {before now after : List ℕ} → Listed t base a found before k now
@@ -166,15 +197,9 @@ pub rows_same : {t u : ℕ → ℕ → Bool} {width columns rows r : ℕ} {befor
     → ((row column : ℕ) → row < rows → column < columns → t row column ≡ u row column) → RowsListed u width columns rows before r after
 rows_same {t} {u} {width} {columns} {rows} w f = record { are = w.are ∙ rows_listed_same t u width columns rows f; at_most = w.at_most; beyond = w.beyond }
 
-pub rows_all : {t : ℕ → ℕ → Bool} {width columns row rows r : ℕ} {before after : List ℕ} → RowsListed t width columns row before r after → row ≡ rows → RowsListed t width columns rows before r after
-rows_all {t} {width} {columns} {r = r} {before} {after} w e = subst (λ (n : ℕ). RowsListed t width columns n before r after) e w
-
 -- room for one row more, and numbers that fit
 pub row_room : (row rows columns : ℕ) → row < rows → row * columns + columns ≤ rows * columns
 row_room row rows columns h = let a = mul-le-mul_right columns (let z : row + 1 ≤ rows = omega arith in z) in let b = next_row row columns in omega arith
-
-pub base_fits : (row width columns : ℕ) → row ≤ 1024 → width ≤ 1024 → columns ≤ width → row * width + columns ≤ 1049600
-base_fits row width columns a b c = let m = mul-le-mul a b in omega arith
 
 -- the part of a block's array that is a mask of so many columns
 pub block-part : (columns : ℕ) (l : List Bool) → columns ≤ 128 → length l ≡ 128 → length (take (columns - 0) l) ≡ columns

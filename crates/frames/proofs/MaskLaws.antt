@@ -2,32 +2,28 @@
 -- are left when it is known what passes below a place.
 -- Assumes nothing.
 use Prim.Native.Nat.{ℕ, zero, suc, ◌+◌, ◌-◌, ◌≤◌, ◌<◌}
-use mathlib.Core.Path.{◌≡◌, refl, sym, ◌∙◌, ap, ap₂, subst}
+use mathlib.Core.Path.{◌≡◌, refl, sym, ◌∙◌, ap, ap₂}
 use mathlib.Core.Logic.{⊎_elim}
-use mathlib.Core.List.{List}
+use mathlib.Core.List.{List, [], ◌∷◌, ◌++◌}
 use mathlib.Core.Bool.{Bool, true, false, ◌&&◌}
 use native.Mathlib.Omega.{arith}
 use native.Mathlib.Numerals.{add-one}
 use native.Mathlib.Nat.{eq-or-lt_of_le}
 use lib.Dec.{ltb, eqb}
-use lib.ListN.{length, get_or, take, drop, set, replicate, get_or-replicate, length-set, length-take, length-drop}
-use lib.Seq.{get_or-set_same, get_or-set_other, get_or-take, get_or-drop}
+use lib.ListN.{length, get_or, take, drop, set, replicate, get_or-replicate, get_or-append, length-append, length-set, length-take, length-drop}
+use lib.Seq.{get_or-append_seam, get_or-set_same, get_or-set_other, get_or-take, get_or-drop}
 use borrow.Author.Tests.{eqb-true, eqb-false}
 use mir.Val.{bool_byte}
 use Rattle.order.specs.Isomorphic.{all_below}
 use Rattle.order.proofs.Tests.{clash, must_fail, and_both, and_first, and_second}
 use Rattle.order.proofs.Isomorphisms.{pass_each}
 use Rattle.frames.specs.declared.places.Step.{Step}
-use Rattle.frames.specs.Inside.{nowhere, no_step, step_test, step_passes_lem, pass_below, all_places_pass, StepWithin, Within, AllStand, Counted, Narrowed, Stands, Looked, BlockTested, RestTested, KnownBelow}
+use Rattle.frames.specs.Inside.{nowhere, no_step, step_test, step_passes_lem, pass_below, all_places_pass, StepWithin, Within, AllStand, Counted, Narrowed, Stands, Looked}
 use Rattle.frames.proofs.StepLaws.{one_near, high_near, low_near, both_near}
 
 pub at_most_one : (b : Bool) → bool_byte b ≤ 1
 at_most_one true = omega arith
 at_most_one false = omega arith
-
--- a number of those passed fits its eight bits
-pub count_fits : (n k : ℕ) (b : Bool) → n ≤ k → k < 128 → n + bool_byte b < 256
-count_fits n k b h g = let o = at_most_one b in omega arith
 
 -- ---- one entry more
 
@@ -67,18 +63,12 @@ counted_more {mask} {k} {n} b w h =
     split : {c : Bool} (i : ℕ) → i < k + 1 → b ≡ c → (i < k → get_or mask i false ≡ c) → get_or (set mask k b) i false ≡ c
     split i g e f = ⊎_elim (λ (q : i ≡ k). stored mask k b i q h ∙ e) (λ (q : i < k). other mask k b i (λ z. omega arith) ∙ f q) (eq-or-lt_of_le (let z : i ≤ k = omega arith in z))
 
-pub counted_all : {mask : List Bool} {k n : ℕ} → CountedTo mask k n → length mask ≤ k → k ≤ length mask → length mask ≤ 128 → Counted mask n
-counted_all w h g f = record { few = f; none_left = λ e i l. w.none_left e i (omega arith); all_left = λ e i l. w.all_left (omega arith) i (omega arith) }
-
 -- of a mask that was `before` the entries below k are thinned out, with their number
 pub record Thinned (t : ℕ → Bool) (before now : List Bool) (k n : ℕ) : Type 0 where
   pub long : length now ≡ length before
   pub thin : (i : ℕ) → i < k → get_or now i false ≡ (get_or before i false && t i)
   pub rest : (i : ℕ) → k ≤ i → get_or now i false ≡ get_or before i false
   pub number : CountedTo now k n
-
-pub thinned_none : (t : ℕ → Bool) (before : List Bool) → Thinned t before before 0 0
-thinned_none t before = record { long = refl; thin = λ i h. absurd (omega arith); rest = λ i h. refl; number = counted_none before }
 
 pub thinned_more : {t : ℕ → Bool} {before now : List Bool} {k n : ℕ} (b : Bool) → Thinned t before now k n → k < length before → b ≡ (get_or now k false && t k)
     → Thinned t before (set now k b) (k + 1) (n + bool_byte b)
@@ -95,18 +85,12 @@ thinned_more {t} {before} {now} {k} {n} b w h e =
     inside : k < length now
     inside = let l = w.long in omega arith
 
-pub thinned_all : {t : ℕ → Bool} {before now : List Bool} {k n : ℕ} → Thinned t before now k n → length before ≤ k → k ≤ length before → length before ≤ 128 → Narrowed t before n now
-thinned_all w h g f = let l = w.long in record { stands = λ i q. w.thin i (omega arith); counted = counted_all w.number (omega arith) (omega arith) (omega arith) }
-
 -- the front of a mask all of which stands
 pub stand_front : (n m : ℕ) → n ≤ m → n ≤ 128 → AllStand (take (n - 0) (replicate m true))
 stand_front n m h f =
     record { few = (let a = length-take (n - 0) (replicate m true) in omega arith); stands = λ i g. let a = length-take (n - 0) (replicate m true) in get_or-take (n - 0) (replicate m true) i false (omega arith) ∙ get_or-replicate m i true false (omega arith) }
 
 -- ---- tests that come to the same, and a test that all pass
-
-pub narrowed_same : {t u : ℕ → Bool} {before after : List Bool} {n : ℕ} → Narrowed t before n after → ((i : ℕ) → u i ≡ t i) → Narrowed u before n after
-narrowed_same {before = before} w f = record { stands = λ i h. w.stands i h ∙ ap (λ b. get_or before i false && b) (sym (f i)); counted = w.counted }
 
 and-true : (b : Bool) → b ≡ (b && true)
 and-true true = refl
@@ -115,7 +99,40 @@ and-true false = refl
 pub narrowed_passed : {u : ℕ → Bool} {mask : List Bool} {n : ℕ} → Counted mask n → ((i : ℕ) → u i ≡ true) → Narrowed u mask n mask
 narrowed_passed {mask = mask} w f = record { stands = λ i h. and-true (get_or mask i false) ∙ ap (λ b. get_or mask i false && b) (sym (f i)); counted = w }
 
--- ---- places
+-- ---- the steps from one on
+
+abbrev pub steps_from : List Step → ℕ → List Step
+steps_from steps from = take (length steps - from) (drop from steps)
+
+module _ (steps : List Step) {from : ℕ} (h : from ≤ length steps) where
+  pub length-steps_from : length (steps_from steps from) ≡ length steps - from
+  length-steps_from = let a = length-take (length steps - from) (drop from steps) in let b = length-drop from steps in omega arith
+
+  step_from : (i : ℕ) → from + i < length steps → get_or (steps_from steps from) i no_step ≡ get_or steps (from + i) no_step
+  step_from i g = get_or-take (length steps - from) (drop from steps) i no_step (omega arith) ∙ get_or-drop from steps i no_step
+
+-- a part of the steps, as what is left when some have been taken off the end
+pub record SomeLeft (steps left : List Step) : Type 0 where
+  pub first : ℕ
+  pub within : first + length left ≤ length steps
+  pub are : (i : ℕ) → i < length left → get_or left i no_step ≡ get_or steps (first + i) no_step
+
+-- the last of them, and those before it
+module _ {steps left : List Step} (rest : List Step) (step : Step) (l : SomeLeft steps left) (e : left ≡ rest ++ (step ∷ [])) where
+  one_more_left : length left ≡ length rest + 1
+  one_more_left = ap length e ∙ length-append rest (step ∷ [])
+
+  pub last_inside : l.first + length rest < length steps
+  last_inside = let w = l.within in let g = one_more_left in omega arith
+
+  pub last_is : step ≡ get_or steps (l.first + length rest) no_step
+  last_is = let g = one_more_left in sym (get_or-append_seam rest step [] no_step) ∙ ap (λ r. get_or r (length rest) no_step) (sym e) ∙ l.are (length rest) (omega arith)
+
+  pub last_off : SomeLeft steps rest
+  last_off =
+      let w = l.within in
+      let g = one_more_left in
+      record { first = l.first; within = omega arith; are = λ i h. sym (get_or-append rest (step ∷ []) no_step i h) ∙ ap (λ r. get_or r i no_step) (sym e) ∙ l.are i (omega arith) }
 
 all_below_same : (n : ℕ) (p q : ℕ → Bool) → ((i : ℕ) → i < n → p i ≡ q i) → all_below n p ≡ all_below n q
 unfolding all_below
@@ -123,7 +140,7 @@ all_below_same zero p q f = refl
 all_below_same (suc n) p q f = ap₂ ◌&&◌ (all_below_same n p q (λ i h. f i (omega arith))) (f n (omega arith))
 
 module _ (F : List ℕ) (steps : List Step) where
-  none_tested : (s : ℕ) → pass_below 0 F steps s ≡ true
+  pub none_tested : (s : ℕ) → pass_below 0 F steps s ≡ true
   unfolding pass_below all_below
   none_tested s = refl
 
@@ -131,9 +148,25 @@ module _ (F : List ℕ) (steps : List Step) where
   unfolding pass_below all_below
   one_more s j = rw add-one refl
 
-  fails_at : (s j : ℕ) → j < length steps → step_passes_lem F steps s j ≡ false → all_places_pass F steps s ≡ false
+  pub fails_at : (s j : ℕ) → j < length steps → step_passes_lem F steps s j ≡ false → all_places_pass F steps s ≡ false
   unfolding pass_below
   fails_at s j h e = must_fail (all_below (length steps) (step_passes_lem F steps s)) (λ g. clash (pass_each (length steps) (step_passes_lem F steps s) g j h) e)
+
+  pub one_passed : (s j : ℕ) → pass_below j F steps s ≡ true → step_passes_lem F steps s j ≡ true → pass_below (j + 1) F steps s ≡ true
+  one_passed s j p e = one_more s j ∙ ap₂ ◌&&◌ p e
+
+  -- where the places below `from` pass, all do if the rest does
+  rest_same : (s from n : ℕ) → pass_below from F steps s ≡ true → from ≤ length steps → from + n ≤ length steps → pass_below n F (steps_from steps from) s ≡ pass_below (from + n) F steps s
+  unfolding pass_below all_below step_passes_lem
+  rest_same s from zero p g h = sym (ap (λ m. pass_below m F steps s) (let e : from + 0 ≡ from = omega arith in e) ∙ p)
+  rest_same s from (suc n) p g h =
+      ap₂ ◌&&◌ (rest_same s from n p g (omega arith)) (ap (step_test F s) (step_from steps g n (omega arith))) ∙
+      sym (ap (λ m. pass_below m F steps s) (let e : from + suc n ≡ suc (from + n) = omega arith in e))
+
+  all_by_rest : (s from : ℕ) → pass_below from F steps s ≡ true → from ≤ length steps → all_places_pass F (steps_from steps from) s ≡ all_places_pass F steps s
+  all_by_rest s from p g =
+      let l = length-steps_from steps g in
+      rest_same s from (length (steps_from steps from)) p g (omega arith) ∙ ap (λ n. pass_below n F steps s) (let e : from + length (steps_from steps from) ≡ length steps = omega arith in e)
 
   -- a test that was told
   pub step-told : (s j : ℕ) {b c : Bool} → b ≡ step_test F s (get_or steps j no_step) → b ≡ c → step_passes_lem F steps s j ≡ c
@@ -181,10 +214,6 @@ module _ (F : List ℕ) (steps : List Step) where
           counted = t.counted;
         }
 
-  -- at the last of them
-  pub looked_end : {s j n : ℕ} {mask : List Bool} → Looked F steps s j n mask → length steps ≤ j → Looked F steps s (length steps) n mask
-  looked_end {s} {j} {n} {mask} w h = let a = w.within in subst (λ (d : ℕ). Looked F steps s d n mask) (let e : j ≡ length steps = omega arith in e) w
-
   -- where all stand nothing is known yet
   pub looked_at_nothing : {s n : ℕ} {mask : List Bool} → AllStand mask → n ≡ length mask → Looked F steps s 0 n mask
   looked_at_nothing {s} w e =
@@ -194,36 +223,20 @@ module _ (F : List ℕ) (steps : List Step) where
         counted = record { few = w.few; none_left = λ z i h. absurd (omega arith); all_left = λ z i h. w.stands i h };
       }
 
-  -- ---- the rest of the places
-
-  pub rest_done : {s from j : ℕ} → (pass_below from F steps s ≡ true → pass_below j F steps s ≡ true) → length steps ≤ j → j ≤ length steps
-      → RestTested F steps s from true
-  rest_done {s} {from} {j} f h g =
-      let end : j ≡ length steps = omega arith in
-      record { rest_passes_lem = λ e p. ap (λ n. pass_below n F steps s) (sym end) ∙ f p; not_all = λ e. clash refl e }
-
-  pub rest_failed : {s from j : ℕ} → j < length steps → step_passes_lem F steps s j ≡ false → RestTested F steps s from false
-  rest_failed {s} {from} {j} h e = record { rest_passes_lem = λ z. clash z refl; not_all = λ z. fails_at s j h e }
-
-  pub rest_more : (s from j : ℕ) → (pass_below from F steps s ≡ true → pass_below j F steps s ≡ true) → step_passes_lem F steps s j ≡ true
-      → pass_below from F steps s ≡ true → pass_below (j + 1) F steps s ≡ true
-  rest_more s from j f e p = one_more s j ∙ ap₂ ◌&&◌ (f p) e
-
-  pub stands_on : {s from : ℕ} {stands : Bool} (r : Bool) → RestTested F steps s from r → KnownBelow F steps s from stands → stands ≡ true → r ≡ all_places_pass F steps s
-  stands_on true w k e = sym (w.rest_passes_lem refl (k.standing e))
-  stands_on false w k e = sym (w.not_all refl)
-
   -- ---- a mask whose columns go on alone
 
   -- the columns below k are through, with their number, and the others are known as far as place `from`
   pub record Alone (s from k n : ℕ) (mask : List Bool) : Type 0 where
     pub through : (i : ℕ) → i < length mask → i < k → get_or mask i false ≡ all_places_pass F steps (s + i)
-    pub waiting : (i : ℕ) → i < length mask → k ≤ i → KnownBelow F steps (s + i) from (get_or mask i false)
+    pub waiting : (i : ℕ) → i < length mask → k ≤ i → (get_or mask i false && all_places_pass F (steps_from steps from) (s + i)) ≡ all_places_pass F steps (s + i)
     pub number : CountedTo mask k n
 
-  pub alone_none : {s from : ℕ} {mask : List Bool} → Stands F steps s from mask → Alone s from 0 0 mask
-  alone_none {mask = mask} w =
-      record { through = λ i h g. absurd (omega arith); waiting = λ i h g. record { standing = w.standing i h; fallen = w.fallen i h }; number = counted_none mask }
+  pub alone_none : {s from : ℕ} {mask : List Bool} → from ≤ length steps → Stands F steps s from mask → Alone s from 0 0 mask
+  alone_none {s} {from} {mask} l w = record { through = λ i h g. absurd (omega arith); waiting = λ i h g. go i h (get_or mask i false) refl; number = counted_none mask }
+    where
+      go : (i : ℕ) → i < length mask → (b : Bool) → get_or mask i false ≡ b → (b && all_places_pass F (steps_from steps from) (s + i)) ≡ all_places_pass F steps (s + i)
+      go i h true e = all_by_rest (s + i) from (w.standing i h e) l
+      go i h false e = sym (w.fallen i h e)
 
   pub alone_more : {s from k n : ℕ} {mask : List Bool} (b : Bool) → Alone s from k n mask → k < length mask → b ≡ all_places_pass F steps (s + k)
       → Alone s from (k + 1) (n + bool_byte b) (set mask k b)
@@ -237,56 +250,6 @@ module _ (F : List ℕ) (steps : List Step) where
         number = counted_more b w.number inside;
       }
 
-  -- a mask that tells where all pass, and its number
-  pub told_all : {s n : ℕ} {mask : List Bool} → ((i : ℕ) → i < length mask → get_or mask i false ≡ all_places_pass F steps (s + i)) → Counted mask n → BlockTested F steps s n mask
-  told_all f w =
-      record {
-        nowhere_passes = λ e i h. sym (f i h) ∙ w.none_left e i h;
-        all_pass = λ e i h. sym (f i h) ∙ w.all_left e i h;
-        told = λ e i h. f i h;
-      }
-
-  pub alone_all : {s from k n : ℕ} {mask : List Bool} → Alone s from k n mask → length mask ≤ k → k ≤ length mask → length mask ≤ 128 → BlockTested F steps s n mask
-  alone_all w h g f = told_all (λ i l. w.through i l (omega arith)) (counted_all w.number h g f)
-
-  -- ---- a whole block
-
-  pub nowhere-told : {s done n : ℕ} {mask : List Bool} → Looked F steps s done n mask → n ≡ 0 → BlockTested F steps s n mask
-  nowhere-told {s} {done} {n} {mask} w e =
-      record {
-        nowhere_passes = λ z i h. gone i h;
-        all_pass = λ z i h. let k : 0 ≡ length mask = sym e ∙ z in absurd (omega arith);
-        told = λ f. absurd (f e);
-      }
-    where
-      gone : (i : ℕ) → i < length mask → all_places_pass F steps (s + i) ≡ false
-      gone i h = w.stands.fallen i h (w.counted.none_left e i h)
-
-  pub all_told : {s done n : ℕ} {mask : List Bool} → Looked F steps s done n mask → length steps ≤ done → BlockTested F steps s n mask
-  all_told {s} {done} {n} {mask} w h = told_all (λ i g. go i g (get_or mask i false) refl) w.counted
-    where
-      end : done ≡ length steps
-      end = let a = w.within in omega arith
-
-      go : (i : ℕ) → i < length mask → (b : Bool) → get_or mask i false ≡ b → b ≡ all_places_pass F steps (s + i)
-      go i g true e = sym (ap (λ d. pass_below d F steps (s + i)) (sym end) ∙ w.stands.standing i g e)
-      go i g false e = sym (w.stands.fallen i g e)
-
--- ---- the steps from one on
-
-module _ (steps : List Step) (from i : ℕ) where
-  abbrev rest : List Step
-  rest = take (length steps - from) (drop from steps)
-
-  pub item_inside : from ≤ length steps → i < length rest → from + i < length steps
-  item_inside h g = let a = length-take (length steps - from) (drop from steps) in let b = length-drop from steps in omega arith
-
-  pub item_end : from ≤ length steps → length rest ≤ i → length steps ≤ from + i
-  item_end h g = let a = length-take (length steps - from) (drop from steps) in let b = length-drop from steps in omega arith
-
-  pub item_there : from + i < length steps → get_or rest i no_step ≡ get_or steps (from + i) no_step
-  item_there h = get_or-take (length steps - from) (drop from steps) i no_step (omega arith) ∙ get_or-drop from steps i no_step
-
 -- ---- the frame from a start on
 
 module _ (F : List ℕ) (steps : List Step) (s : ℕ) where
@@ -296,25 +259,6 @@ module _ (F : List ℕ) (steps : List Step) (s : ℕ) where
 
   sample_there : (o : ℕ) → s + o < length F → get_or from (0 + o) 0 ≡ get_or F (s + o) 0
   sample_there o h = ap (λ n. get_or from n 0) (let e : 0 + o ≡ o = omega arith in e) ∙ get_or-take (length F - s) (drop s F) o 0 (omega arith) ∙ get_or-drop s F o 0
-
-  long_there : s ≤ length F → length from ≡ length F - s
-  long_there h = let a = length-take (length F - s) (drop s F) in let b = length-drop s F in omega arith
-
-  pub within_there : Within F steps s 1 → Within from steps 0 1
-  within_there i =
-      let t = i.start in
-      let l = long_there (omega arith) in
-      record {
-        start = omega arith;
-        inside = λ j g.
-            let a = i.inside j g in
-            record {
-              here_in = let b = a.here_in in omega arith;
-              one_in = λ f. let b = a.one_in f in omega arith;
-              low_in = λ f. let b = a.low_in f in omega arith;
-              high_in = λ f. let b = a.high_in f in omega arith;
-            };
-      }
 
   step_there : (p : Step) → StepWithin F s 1 p → step_test from 0 p ≡ step_test F s p
   step_there p i = go (eqb p.below p.above) (eqb p.below nowhere) (eqb p.above nowhere) refl refl refl
@@ -347,14 +291,7 @@ module _ (F : List ℕ) (steps : List Step) (s : ℕ) where
           let o = eqb-false p.above nowhere z in
           both_near from 0 p e n o ∙ ap₂ ◌&&◌ (ap₂ ltb (at_low n) at_here) (ap₂ ltb at_here (at_high o)) ∙ sym (both_near F s p e n o)
 
-  below_there : (j : ℕ) → j ≤ length steps → Within F steps s 1 → pass_below j from steps 0 ≡ pass_below j F steps s
+  -- the places pass there where they pass in the frame
+  pub all_there : Within F steps s 1 → all_places_pass from steps 0 ≡ all_places_pass F steps s
   unfolding pass_below step_passes_lem
-  below_there j h i = all_below_same j _ _ (λ k g. step_there (get_or steps k no_step) (i.inside k (omega arith)))
-
-  -- what is told of the rest there is told of the frame
-  pub rest_there : {k : ℕ} {r : Bool} → k ≤ length steps → Within F steps s 1 → RestTested from steps 0 k r → RestTested F steps s k r
-  rest_there {k} h i w =
-      record {
-        rest_passes_lem = λ e p. sym (below_there (length steps) (omega arith) i) ∙ w.rest_passes_lem e (below_there k h i ∙ p);
-        not_all = λ e. sym (below_there (length steps) (omega arith) i) ∙ w.not_all e;
-      }
+  all_there i = all_below_same (length steps) _ _ (λ k g. step_there (get_or steps k no_step) (i.inside k g))

@@ -35,16 +35,6 @@ pub record Corner (pitch k j start column : ℕ) : Type 0 where
 pub first_corner : (pitch k : ℕ) → Corner pitch k 0 0 0
 first_corner pitch k = record { row = 0; start_is = omega arith; place_is = omega arith; within = omega arith }
 
--- a turn behind the last column is to a row that is there, so that its start is a number of the machine's
-pub turn-fits : {pitch k m j start column : ℕ} → LastFits pitch k m → Corner pitch k j start column → j < m → column ≡ k → start + pitch < 18446744073709551616
-turn-fits {pitch} {k} {m} {j} {start} {column} f c h e =
-    let a = next_row c.row k in
-    let b = next_row c.row pitch in
-    let s = c.start_is in
-    let p = c.place_is in
-    let g = f.fits (c.row + 1) (omega arith) in
-    omega arith
-
 -- after a turn the column is inside its row, and place j's offset is the sum of the two
 pub record CornerIn (pitch k j start column : ℕ) : Type 0 where
   pub row : ℕ
@@ -85,13 +75,9 @@ offset_there {pitch} {k} {j} {start} {column} c =
 pub next_corner : {pitch k j start column : ℕ} → CornerIn pitch k j start column → Corner pitch k (j + 1) start (column + 1)
 next_corner c = let p = c.place_is in let i = c.inside in record { row = c.row; start_is = c.start_is; place_is = omega arith; within = omega arith }
 
--- the sum of the two is a number of the machine's
-pub offset_fits : {pitch k m j start column : ℕ} → LastFits pitch k m → CornerIn pitch k j start column → j < m → start + column + 1 < 18446744073709551616
-offset_fits f c h = let p = c.place_is in let i = c.inside in let s = c.start_is in let g = f.fits c.row (omega arith) in omega arith
-
 -- all places of a buffer laid
-pub laid_whole : {f : ℕ → Step} {j : ℕ} {before now : List Step} → Filled f j before now → length before ≤ j → j ≤ length before → now ≡ each f (length before)
-laid_whole {f} {j} {before} w h g =
+pub laid_whole : {A : Type 0} {f : ℕ → A} {j : ℕ} {before now : List A} → Filled f j before now → length before ≤ j → j ≤ length before → now ≡ each f (length before)
+laid_whole {f = f} {j} {before} w h g =
     w.holds ∙ ap (λ l. each f j ++ l) (drop_of_length-le before h) ∙ append-nil (each f j) ∙ ap (each f) (let e : j ≡ length before = omega arith in e)
 
 -- the part of an array that has as many steps as a patch has places
@@ -100,7 +86,7 @@ room_long m l h e = let a = length-take (m - 0) l in omega arith
 
 -- ---- inside the frame
 
-module _ {F : List ℕ} {pitch width h k rows columns room : ℕ} (i : PatchInside F pitch width h k rows columns room) where
+module _ {F : List ℕ} {pitch width h k rows columns : ℕ} (i : PatchInside F pitch width h k rows columns) where
   -- up to the last row that the patch covers
   row_reaches : (row : ℕ) → row ≤ rows + h - 2 → row * pitch ≤ (rows + h - 2) * pitch
   row_reaches row g = mul-le-mul_right pitch g
@@ -162,7 +148,7 @@ module _ {F : List ℕ} {pitch width h k rows columns room : ℕ} (i : PatchInsi
           narrow_column : (a : ℕ) → a % k < pitch
           narrow_column a = let m = mod-lt a i.one_column in let w = i.wide_pitch in let e = i.across in let g = i.some_columns in omega arith
 
-  pub offsets_inside : {low high : List ℕ} → length F < 18446744073709551616 → h * k ≤ length low → h * k ≤ length high → OffsetsInside F (offsets_of pitch k (h * k)) low high pitch width rows columns room
+  pub offsets_inside : {low high : List ℕ} → length F < 18446744073709551616 → h * k ≤ length low → h * k ≤ length high → OffsetsInside F (offsets_of pitch k (h * k)) low high pitch rows columns
   unfolding offsets_of
   offsets_inside {low} {high} fits l g =
       let n = length-each (λ j. lone (offset_of pitch k j)) (h * k) in
@@ -175,17 +161,13 @@ module _ {F : List ℕ} {pitch width h k rows columns room : ℕ} (i : PatchInsi
         somewhere = (offsets_apart fits).somewhere;
         row_start = λ row q. let reach = row_reaches row (omega arith) in let d = i.last_row in omega arith;
         row_inside = λ row j q z. let b : j < h * k = rw n at z in rw (laid_at j b) (offset_inside row j q b);
-        few_rows = i.few_rows;
-        few_columns = omega arith;
-        narrow = i.narrow;
-        enough_room = i.enough_room;
       }
 
 -- the places' neighbours lie inside where the places do
-pub grid : {F : List ℕ} {offsets : List Step} {low high : List ℕ} {pitch width rows columns room : ℕ} → OffsetsInside F offsets low high pitch width rows columns room
-    → Grid F (near_steps offsets low high) pitch width rows columns room
+pub grid : {F : List ℕ} {offsets : List Step} {low high : List ℕ} {pitch rows columns : ℕ} → OffsetsInside F offsets low high pitch rows columns
+    → Grid F (near_steps offsets low high) pitch rows columns
 unfolding near_steps
-grid {F} {offsets} {low} {high} {pitch} {width} {rows} {columns} {room} i =
+grid {F} {offsets} {low} {high} {pitch} {rows} {columns} i =
     let m = length offsets in
     let l = length-each (λ j. near_step offsets j (get_or low j 0) (get_or high j 0)) m in
     record {
@@ -196,10 +178,6 @@ grid {F} {offsets} {low} {high} {pitch} {width} {rows} {columns} {room} i =
                 let g : j < m = rw l at z in
                 rw (get_or-each (λ j. near_step offsets j (get_or low j 0) (get_or high j 0)) m j no_step g) (step-within row j q g (get_or low j 0) (get_or high j 0));
           };
-      few_rows = i.few_rows;
-      few_columns = i.few_columns;
-      narrow = i.narrow;
-      enough_room = i.enough_room;
     }
   where
     Reached : ℕ → ℕ → Type 0
@@ -247,25 +225,10 @@ seen_under F pitch h k row column =
 pub within_same : {F : List ℕ} {steps : List Step} {s n m : ℕ} → m ≡ n → Within F steps s n → Within F steps s m
 within_same {F} {steps} {s} e i = subst (λ (k : ℕ). Within F steps s k) (sym e) i
 
--- a part of what lies within
-pub within-part : {F : List ℕ} {steps : List Step} {s n : ℕ} (c w : ℕ) → Within F steps s n → c + w ≤ n → Within F steps (s + c) w
-within-part c w i h =
-    record {
-      start = let a = i.start in omega arith;
-      inside = λ j g.
-          let a = i.inside j g in
-          record {
-            here_in = let b = a.here_in in omega arith;
-            one_in = λ f. let b = a.one_in f in omega arith;
-            low_in = λ f. let b = a.low_in f in omega arith;
-            high_in = λ f. let b = a.high_in f in omega arith;
-          };
-    }
-
 -- ---- what the functions that lay them out hand on
 
 module _ (F : List ℕ) (offsets : List Step) (low high : List ℕ) {steps : List Step} (e : steps ≡ near_steps offsets low high) where
-  pub grid_laid : {pitch width rows columns room : ℕ} → OffsetsInside F offsets low high pitch width rows columns room → Grid F steps pitch width rows columns room
+  pub grid_laid : {pitch rows columns : ℕ} → OffsetsInside F offsets low high pitch rows columns → Grid F steps pitch rows columns
   grid_laid i = rw e (grid i)
 
   pub rows_laid : (pitch : ℕ) {width columns rows r : ℕ} {before after : List ℕ}
@@ -275,14 +238,9 @@ module _ (F : List ℕ) (offsets : List Step) (low high : List ℕ) {steps : Lis
   rows_laid pitch w = rows_same w (λ row column h g. ap (λ l. all_places_pass F l (row * pitch + column)) e)
 
 module _ (F low high : List ℕ) {offsets : List Step} (pitch k m : ℕ) (e : offsets ≡ offsets_of pitch k m) where
-  pub offsets_laid : {width rows columns room : ℕ} → OffsetsInside F (offsets_of pitch k m) low high pitch width rows columns room
-      → OffsetsInside F offsets low high pitch width rows columns room
+  pub offsets_laid : {rows columns : ℕ} → OffsetsInside F (offsets_of pitch k m) low high pitch rows columns
+      → OffsetsInside F offsets low high pitch rows columns
   offsets_laid i = rw e i
-
-  pub rows_by_offsets : {width columns rows r : ℕ} {before after : List ℕ}
-      → RowsListed (λ row column. pass_by_tables F offsets low high (row * pitch + column)) width columns rows before r after
-      → RowsListed (λ row column. pass_by_tables F (offsets_of pitch k m) low high (row * pitch + column)) width columns rows before r after
-  rows_by_offsets w = rows_same w (λ row column h g. ap (λ l. pass_by_tables F l low high (row * pitch + column)) e)
 
 -- ---- neighbours laid beside the offsets, one place a turn
 

@@ -28,7 +28,7 @@ levels_front : (Q : List ℕ) (m : ℕ) → m ≤ length Q → levels (take (m -
 unfolding levels
 levels_front Q m h = let e : m - 0 ≡ m = omega arith in rw (e, length-take-le m Q h) (each_same _ _ m (λ k l. ap pos (get_or-take m Q k 0 l)))
 
-module _ (Q : List ℕ) {F : List ℕ} {pitch width h k rows columns room : ℕ} (i : PatchInside F pitch width h k rows columns room) where
+module _ (Q : List ℕ) {F : List ℕ} {pitch width h k rows columns : ℕ} (i : PatchInside F pitch width h k rows columns) where
   some-places : 0 < h * k
   some-places = mul-le-mul i.one_row i.one_column
 

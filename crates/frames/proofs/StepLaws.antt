@@ -144,10 +144,6 @@ module _ (F : List ℕ) (s : ℕ) (p : Step) where
   unfolding step_test
   both_near e n m = rw (ne_eqb p.below p.above e, ne_eqb p.below nowhere n, ne_eqb p.above nowhere m) refl
 
--- no columns along
-pub not_moved : (F : List ℕ) (o : ℕ) → get_or F o 0 ≡ get_or F (0 + o) 0
-not_moved F o = ap (λ n. get_or F n 0) (let e : o ≡ 0 + o = omega arith in e)
-
 -- i columns along a row
 moved : (F : List ℕ) (s i o : ℕ) → get_or F (s + i + o) 0 ≡ get_or F (s + o + i) 0
 moved F s i o = ap (λ n. get_or F n 0) (let e : s + i + o ≡ s + o + i = omega arith in e)

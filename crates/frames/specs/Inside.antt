@@ -125,16 +125,6 @@ pub record BlockTested (F : List ℕ) (steps : List Step) (s r : ℕ) (mask : Li
   pub all_pass : r ≡ length mask → (i : ℕ) → i < length mask → all_places_pass F steps (s + i) ≡ true
   pub told : (r ≡ 0 → ⊥) → (i : ℕ) → i < length mask → get_or mask i false ≡ all_places_pass F steps (s + i)
 
--- the places from `from` on pass, or not all places do
-pub record RestTested (F : List ℕ) (steps : List Step) (s from : ℕ) (r : Bool) : Type 0 where
-  pub rest_passes_lem : r ≡ true → pass_below from F steps s ≡ true → all_places_pass F steps s ≡ true
-  pub not_all : r ≡ false → all_places_pass F steps s ≡ false
-
--- what is known of a column's places before the rest of them: it stands, and those below `from` pass, or it has fallen
-pub record KnownBelow (F : List ℕ) (steps : List Step) (s from : ℕ) (stands : Bool) : Type 0 where
-  pub standing : stands ≡ true → pass_below from F steps s ≡ true
-  pub fallen : stands ≡ false → all_places_pass F steps s ≡ false
-
 -- ---- lists of places
 
 -- a list of `found` in a buffer has grown to r: each number below n that passes a test is written behind it, added to base
@@ -158,27 +148,19 @@ pub record PlacesWritten (F : List ℕ) (height width pitch : ℕ) (Q : List ℕ
 -- ---- what is asked of those who look at whole frames
 
 -- the places tried are inside: at each row over all columns
-pub record Grid (F : List ℕ) (steps : List Step) (pitch width rows columns room : ℕ) : Type 0 where
+pub record Grid (F : List ℕ) (steps : List Step) (pitch rows columns : ℕ) : Type 0 where
   pub row_within : (row : ℕ) → row < rows → Within F steps (row * pitch) columns
-  pub few_rows : rows ≤ 1024
-  pub few_columns : columns ≤ width
-  pub narrow : width ≤ 1024
-  pub enough_room : rows * columns ≤ room
 
 -- the same by the offsets of the patch's places alone, and room for their neighbours
-pub record OffsetsInside (F : List ℕ) (steps : List Step) (low high : List ℕ) (pitch width rows columns room : ℕ) : Type 0 where
+pub record OffsetsInside (F : List ℕ) (steps : List Step) (low high : List ℕ) (pitch rows columns : ℕ) : Type 0 where
   pub low_room : length steps ≤ length low
   pub high_room : length steps ≤ length high
   pub somewhere : (j : ℕ) → j < length steps → here_at steps j ≡ nowhere → ⊥
   pub row_start : (row : ℕ) → row < rows → row * pitch + columns ≤ length F
   pub row_inside : (row j : ℕ) → row < rows → j < length steps → row * pitch + here_at steps j + columns ≤ length F
-  pub few_rows : rows ≤ 1024
-  pub few_columns : columns ≤ width
-  pub narrow : width ≤ 1024
-  pub enough_room : rows * columns ≤ room
 
 -- the patch lies inside the frame at the last place tried, and its places are few
-pub record PatchInside (F : List ℕ) (pitch width h k rows columns room : ℕ) : Type 0 where
+pub record PatchInside (F : List ℕ) (pitch width h k rows columns : ℕ) : Type 0 where
   pub some_rows : 0 < rows
   pub some_columns : 0 < columns
   pub few_rows : rows ≤ 1024
@@ -189,4 +171,3 @@ pub record PatchInside (F : List ℕ) (pitch width h k rows columns room : ℕ) 
   pub few : h * k ≤ 1024
   pub wide_pitch : width ≤ pitch
   pub last_row : (rows + h - 2) * pitch + width ≤ length F
-  pub enough_room : rows * columns ≤ room

@@ -2,9 +2,9 @@
 // after the other thins it out.
 //
 // Follows docs/RULES.md, "Test of a place" and "Frames". A turn of a loop over the mask is the same few steps whatever the samples, so the
-// compiler takes sixteen columns at once. A block is left when none stands. The last places are tried first, since each lies close between two
-// neighbours and fells more columns than an early one. Where a few columns stand after some places each goes on alone: most of a mask that
-// nearly all have left is work for nothing. Places pass or fail each by itself, so their order changes no answer.
+// compiler takes sixteen columns at once. A block is left when none stands. The last places are tried first, since each lies close between
+// two neighbours and fells more columns than an early one. Where a few columns stand after some places each goes on alone: most of a mask
+// that nearly all have left is work for nothing. Places pass or fail each by itself, so their order changes no answer.
 
 ghost use Rattle.std.specs.Prelude.{◌≡◌, ℕ, ◌+◌, ◌≤◌, ◌<◌, Bool, length};
 ghost use Rattle.frames.specs.Inside.{step_test, StepWithin, Within, Counted, Narrowed, Stands, Looked, BlockTested};
@@ -22,8 +22,8 @@ const SOME_PLACES: usize = 16;
 // So many of the last places are tried first, of patches with more than four times as many.
 const LAST_PLACES: usize = 4;
 
-// Thins a mask out by a test of its columns' numbers; answers a number of those that stand then. Each of the tests below makes a loop of its
-// own, of sixteen columns a turn.
+// Thins a mask out by a test of its columns' numbers; answers a number of those that stand then. Each of the tests below makes a loop of
+// its own, of sixteen columns a turn.
 fn narrow_where<F: Fn(usize) -> bool>(mask: &mut [bool], passes: F) -> u8
     requires callable { (i : ℕ) → i < length mask.old → F.pre passes i }
     requires few { length mask.old ≤ 128 }
@@ -32,7 +32,7 @@ fn narrow_where<F: Fn(usize) -> bool>(mask: &mut [bool], passes: F) -> u8
     let mut standing: u8 = 0;
     for (i, stands) in mask.iter_mut().enumerate() {
         *stands = *stands & passes(i);
-        standing += *stands as u8;
+        standing += u8::from(*stands);
     }
     standing
 }
@@ -76,15 +76,17 @@ fn first_late(m: usize) -> usize
     m - LAST_PLACES
 }
 
-// The last places, as long as any column stands; answers a number of those that do. Apart from `look`, which goes the other way, ends sooner
-// and learns that places pass: one function for both would take all three from its caller.
+// The last places, as long as any column stands; answers a number of those that do. Apart from `look`, which goes the other way, ends
+// sooner and learns that places pass: one function for both would take all three from its caller. Frame, steps and start come one by one
+// here, above and below: as methods of a strip (rows.rt) these would ask that the mask is as long as the strip is wide, in place of
+// `Within`: as many clauses as these have.
 fn look_late(frame: &[u16], steps: &[Step], at: usize, mask: &mut [bool], all: u8) -> u8
     requires { Within frame.now steps.now at (length mask.old) × Looked frame.now steps.now at 0 all mask.old }
     ensures { Looked frame.now steps.now at 0 result mask.new }
 {
     let mut standing = all;
-    for j in (first_late(steps.len())..steps.len()).rev() {
-        standing = narrow(frame, at, steps[j], mask, standing);
+    for step in steps[first_late(steps.len())..].iter().rev() {
+        standing = narrow(frame, at, *step, mask, standing);
         if standing == 0 {
             return standing;
         }
@@ -125,21 +127,23 @@ fn look(frame: &[u16], steps: &[Step], at: usize, mask: &mut [bool], late: u8) -
     Glance { done, standing }
 }
 
-// The places from `from` on, for each column that stands.
+// The places from `from` on, for each column that stands. Not by `narrow_where`, which asks fallen columns too: a test here is up to m
+// comparisons.
 fn look_alone(frame: &[u16], steps: &[Step], at: usize, from: usize, mask: &mut [bool]) -> u8
     requires { Within frame.now steps.now at (length mask.old) × Stands frame.now steps.now at from mask.old × (from ≤ length steps.now) × (length mask.old ≤ 128) }
     ensures { BlockTested frame.now steps.now at result mask.new }
 {
+    let rest = &steps[from..];
     let mut standing: u8 = 0;
     for (i, stands) in mask.iter_mut().enumerate() {
-        *stands = still_stands(*stands, frame, steps, at + i, from);
-        standing += *stands as u8;
+        *stands = still_stands(*stands, frame, rest, at + i);
+        standing += u8::from(*stands);
     }
     standing
 }
 
-// Where all places pass; `all` is the number of columns. The answer is 0 only if that is nowhere, and then the mask tells nothing; and it is
-// the number of columns only if it is everywhere.
+// Where all places pass; `all` is the number of columns. The answer is 0 only if that is nowhere, and then the mask tells nothing; and it
+// is the number of columns only if it is everywhere.
 pub(crate) fn test_block(frame: &[u16], steps: &[Step], at: usize, mask: &mut [bool], all: u8) -> u8
     requires { Within frame.now steps.now at (length mask.old) × Looked frame.now steps.now at 0 all mask.old }
     ensures { BlockTested frame.now steps.now at result mask.new }

@@ -10,6 +10,7 @@ mod answers;
 mod blocks;
 mod patches;
 mod places;
+mod reach;
 mod rows;
 mod searching;
 

@@ -10,7 +10,9 @@ use order::Refusal;
 // What an accepted call gives.
 pub const ACCEPTED: u64 = 0;
 
-// A refusal's number in the upper half, and in the lower its place, or the largest number that there is room for.
+// A refusal's number in the upper half, and in the lower its place, or the largest number that there is room for. Private functions of the
+// host crates give this number too, by `Err(why) => result_of(why)` and not by `?`: `HostPrepare` and `HostSearch`, their contracts, speak
+// of it.
 pub fn result_of(why: Refusal) -> u64
     ensures { result ≡ refusal_result why }
 {

@@ -22,7 +22,7 @@ use Rattle.order.proofs.Answered.{done, unmet, ok_accepted, err_refused}
 use Rattle.order.proofs.Lists.{length-each}
 use Rattle.sizes.specs.Lengths.{Room}
 use Rattle.tables.specs.Promises.{PreparePromise, sizes_verdict}
-use Rattle.sizes.proofs.Verdicts.{prepare_room, prepare_unlost}
+use Rattle.sizes.proofs.Verdicts.{pattern_passed, prepare_room, prepare_unlost}
 use Rattle.sizes.proofs.VerdictRows.{pattern_stays}
 use Rattle.words.specs.Bytes.{samples_in, bytes_of}
 use Rattle.host_answers.specs.Results.{refusal_result}
@@ -79,11 +79,6 @@ module _ (P : List ℤ) (low high wi wj : List ℕ) where
   pub fine_fits : done ≡ answer_by verdict tt → (first_lost_lem P ≡ none) × Room (length P) (length low / 2) (length high / 2) (length wi / 2) (length wj / 2)
   fine_fits e = let a = (ok_accepted verdict tt e).0 in (prepare_unlost P _ _ _ _ a, prepare_room P _ _ _ _ a)
 
-  pub prepare_put : {low' high' wi' wj' : List ℕ} → done ≡ answer_by verdict tt → TablesPut P low high wi wj low' high' wi' wj' → HostPrepare P low high wi wj 0 low' high' wi' wj'
-  prepare_put e t =
-      let a : verdict ≡ accepted = (ok_accepted verdict tt e).0 in
-      record { result = rw a refl; low_after = rw a t.low_put; high_after = rw a t.high_put; witness_i_after = rw a t.witness_i_put; witness_j_after = rw a t.witness_j_put }
-
   pub prepare_refused : (why : Refusal) {result : ℕ} → unmet why ≡ answer_by verdict tt → result ≡ refusal_result why → HostPrepare P low high wi wj result low high wi wj
   prepare_refused why e c =
       let a : verdict ≡ refused why = err_refused verdict tt e in
@@ -103,14 +98,13 @@ module _ (P : List ℤ) (low high wi wj : List ℕ) where
 
 -- ---- by the pattern's bytes
 
+-- a length that is accepted is within the limit
+pub pattern_short : (m : ℕ) {c : Result (Unit {0}) Refusal} {u : Unit {0}} → c ≡ answer_by (pattern_verdict m accepted) tt → c ≡ Ok u → m ≤ pattern_limit
+pattern_short m e g = (pattern_passed m accepted (ok_accepted (pattern_verdict m accepted) tt (sym g ∙ e)).0).1
+
 -- a length that is refused is refused before all else
 pub prepare_unfit : (pattern low high wi wj : List ℕ) {why : Refusal} {result : ℕ} {c : Result (Unit {0}) Refusal} → c ≡ answer_by (pattern_verdict (length pattern / 4) accepted) tt → c ≡ Err why → result ≡ refusal_result why
     → HostPrepare (samples_in pattern) low high wi wj result low high wi wj
 unfolding prepare_verdict
 prepare_unfit pattern low high wi wj {why} e g r =
     prepare_refused (samples_in pattern) low high wi wj why (sym g ∙ pattern_stays _ (rw length-each e) g _) r
-
--- the samples are those of the pattern's bytes
-pub samples-prepared : (pattern : List ℕ) {S : List ℤ} {low high wi wj low' high' wi' wj' : List ℕ} {r : ℕ}
-    → HostPrepare S low high wi wj r low' high' wi' wj' → S ≡ samples_in pattern → HostPrepare (samples_in pattern) low high wi wj r low' high' wi' wj'
-samples-prepared pattern t e = rw e at t

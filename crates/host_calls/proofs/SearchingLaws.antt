@@ -10,7 +10,7 @@ use native.Mathlib.Omega.{arith}
 use native.Mathlib.Nat.{sub-zero}
 use Rattle.std.specs.Prelude.{Result, Ok, Err}
 use lib.IntN.{ℤ}
-use lib.ListN.{length, get_or, take, drop, length-append, length-replicate}
+use lib.ListN.{length, get_or, take, drop, replicate, length-append, length-replicate}
 use lib.Seq.{take_at, length-take-le}
 use borrow.Author.Tests.{ne_eqb, le-ltb}
 use Rattle.order.specs.declared.refusal.Refusal.{Refusal}
@@ -42,7 +42,7 @@ use Rattle.words.specs.Handed.{entries_taken, words_put}
 use Rattle.host_answers.proofs.Numbers.{only_accepted}
 use Rattle.words.proofs.Handing.{entries_taken_lem, words_put_lem}
 use Rattle.host_calls.specs.HostPromises.{HostSearch, search_case, kept_bytes, listed_bytes, count_bytes}
-use Rattle.host_calls.specs.Inside.{Fits, Arrays}
+use Rattle.host_calls.specs.Inside.{Fits}
 use Rattle.host_answers.specs.Answers.{AnswerPut}
 use Rattle.host_calls.proofs.HostDemands.{counts-back, demands-back}
 
@@ -55,13 +55,6 @@ front_read table entries rest m h t p =
     let long : length (take (m - 0) entries) ≡ m = length-take-le (m - 0) entries (omega arith) ∙ sub-zero m in
     let same = entries_taken_lem table (take (m - 0) entries) p (omega arith) ∙ ap (first_entries table) long in
     ap (λ l. take m (l ++ rest)) same ∙ take_at (first_entries table m) rest m (length-each _ m)
-
--- of each table
-pub tables_read : (low high wi wj : List ℕ) {P T : List ℤ} {lows highs is js kept listed kept' listed' : List ℕ} {r : Result Counts Refusal}
-    → SearchPromise P lows highs is js T kept listed r kept' listed' → lows ≡ first_entries low (length P) → highs ≡ first_entries high (length P)
-    → is ≡ first_entries wi (length P) → js ≡ first_entries wj (length P)
-    → SearchPromise P (first_entries low (length P)) (first_entries high (length P)) (first_entries wi (length P)) (first_entries wj (length P)) T kept listed r kept' listed'
-tables_read low high wi wj p a b c d = rw (← a, ← b, ← c, ← d) p
 
 -- ---- the fronts of the tables are what a verdict looks at
 
@@ -114,6 +107,34 @@ stays : (P : List ℤ) (l h i j n s p : ℕ) (why : Refusal) (next : Verdict) �
 unfolding fitting_verdict
 stays P l h i j n s p why next e =
     row_refuses (λ v. sizes P l h i j (room_verdict (length P) n s p v)) (then_row (sizes P l h i j) (room_verdict (length P) n s p) (sizes_row P l h i j) (room_row (length P) n s p)) e next
+
+-- ---- the look at the pattern and the lengths
+
+-- what lengths that are accepted tell
+pub search_fits : (P : List ℤ) (low high wi wj trace survivors positions windows : ℕ) {r : Result ℕ Refusal}
+    → FittingPromise P (low / 2) (high / 2) (wi / 2) (wj / 2) (trace / 4) (survivors / 4) (positions / 4) r → r ≡ Ok windows
+    → Fits P low high wi wj trace survivors positions windows
+unfolding fitting_verdict
+search_fits P low high wi wj trace survivors positions windows p e =
+    let f = ok_accepted _ _ (sym e ∙ p.answer) in
+    let a = pattern_passed (length P) _ f.0 in
+    let o = stitches_passed P _ a.2 in
+    let b = tables_passed (length P) (low / 2) (high / 2) (wi / 2) (wj / 2) _ o.1 in
+    let c = room_passed (length P) (trace / 4) (survivors / 4) (positions / 4) accepted b.4 in
+    let number = f.1 in
+    let few = windows_of_as (length P) (trace / 4) in
+    let some = a.0 in
+    let s = c.1 in
+    let q = c.2 in
+    record {
+      unlost = o.0;
+      room = record { some = some; limit = a.1; low_room = b.0; high_room = b.1; witness_i_room = b.2; witness_j_room = b.3 };
+      trace_bound = c.0;
+      number = number;
+      few = omega arith;
+      kept_room = omega arith;
+      listed_room = omega arith;
+    }
 
 -- ---- the answer in the host's buffers
 
@@ -209,24 +230,22 @@ module _ (P : List ℤ) (low high wi wj trace survivors positions counts : List 
       ∙ own_same P low high wi wj m r (omega arith)
       ∙ sym (only_own P (entries_in low) (entries_in high) (entries_in wi) (entries_in wj) T (length survivors / 4) (length positions / 4) l all (omega arith) (omega arith) (omega arith))
 
-  pub search_put : {windows samples : ℕ} {S : List ℤ} {kept listed kept' listed' survivors' positions' counts' : List ℕ} {answer : Result Counts Refusal} {r : ℕ}
-      → Lengths windows → Arrays n samples (length kept) (length listed)
-      → SearchPromise P (first_entries low m) (first_entries high m) (first_entries wi m) (first_entries wj m) S kept listed answer kept' listed' → S ≡ T
+  pub search_put : {windows size : ℕ} {S : List ℤ} {kept' listed' survivors' positions' counts' : List ℕ} {answer : Result Counts Refusal} {r : ℕ}
+      → Lengths windows → n ≤ size
+      → SearchPromise P (first_entries low m) (first_entries high m) (first_entries wi m) (first_entries wj m) S (replicate size 0) (replicate size 0) answer kept' listed' → S ≡ T
       → AnswerPut answer (take (windows - 0) kept') (take (windows - 0) listed') survivors positions counts r survivors' positions' counts'
       → HostSearch P low high wi wj trace survivors positions counts r survivors' positions' counts'
-  search_put {windows} {samples} {S} {kept} {listed} f w p same a =
+  search_put {windows} {size} f w p same a =
       let q = rw same at p in
       let fewer = f.few in
-      let x = w.keeps_long in
-      let y = w.lists_long in
       let s = f.kept_room in
       let l = f.listed_room in
-      let keeps : windows ≤ length kept = omega arith in
-      let lists : windows ≤ length listed = omega arith in
-      let v = same_verdict f keeps lists in
+      let array : List ℕ = replicate size 0 in
+      let long : windows ≤ length array = rw length-replicate (omega arith) in
+      let v = same_verdict f long long in
       let N = windows_of (length P) (length T) in
       let number : N ≡ windows - 0 = ap (windows_of m) (length-each _ n) ∙ sym f.number ∙ sym (sub-zero windows) in
-      let h = handed verdict kept listed (rw v at q.answer) (rw v at q.survivors_after) (rw v at q.positions_after)
+      let h = handed verdict array array (rw v at q.answer) (rw v at q.survivors_after) (rw v at q.positions_after)
       (length-filled (kept-windows P T) N (omega (arith, duels-and-survivors P T)) ∙ number)
       (length-filled (listed-windows P T) N (positions-few P T) ∙ number) (omega arith) (omega arith) a in
       promised h.result h.kept_is h.listed_is h.counts_is
@@ -235,33 +254,6 @@ module _ (P : List ℤ) (low high wi wj trace survivors positions counts : List 
 
   abbrev Looked : Result ℕ Refusal → Type 0
   Looked r = FittingPromise P (length low / 2) (length high / 2) (length wi / 2) (length wj / 2) n (length survivors / 4) (length positions / 4) r
-
-  pub search_fits : (windows : ℕ) {r : Result ℕ Refusal} → Looked r → r ≡ Ok windows → Lengths windows
-  unfolding fitting_verdict
-  search_fits windows p e =
-      let f = ok_accepted _ _ (sym e ∙ p.answer) in
-      let a = pattern_passed m _ f.0 in
-      let o = stitches_passed P _ a.2 in
-      let b = tables_passed m (length low / 2) (length high / 2) (length wi / 2) (length wj / 2) _ o.1 in
-      let c = room_passed m n (length survivors / 4) (length positions / 4) accepted b.4 in
-      let some = a.0 in
-      let number = f.1 in
-      let few = windows_of_as m n in
-      let s = c.1 in
-      let q = c.2 in
-      let l = b.0 in
-      let h = b.1 in
-      let i = b.2 in
-      let j = b.3 in
-      record {
-        unlost = o.0;
-        room = record { some = some; limit = a.1; low_room = l; high_room = h; witness_i_room = i; witness_j_room = j };
-        trace_bound = c.0;
-        number = number;
-        few = omega arith;
-        kept_room = omega arith;
-        listed_room = omega arith;
-      }
 
   pub search_refused : (why : Refusal) {r : Result ℕ Refusal} {code : ℕ} → Looked r → r ≡ Err why → code ≡ refusal_result why
       → HostSearch P low high wi wj trace survivors positions counts code survivors positions counts
@@ -294,9 +286,3 @@ unfolding search_verdict
 search_unfit pattern low high wi wj trace survivors positions counts {why} e g r =
     let v : search_case (samples_in pattern) low high wi wj trace survivors positions ≡ refused why = err_refused _ tt (sym g ∙ pattern_stays _ (rw length-each e) g _) in
     promised (samples_in pattern) low high wi wj trace survivors positions counts (rw v r) (rw v refl) (rw v refl) (rw v refl)
-
--- the samples are those of the pattern's bytes
-pub samples_searched : (pattern : List ℕ) {S : List ℤ} {low high wi wj trace survivors positions counts survivors' positions' counts' : List ℕ} {r : ℕ}
-    → HostSearch S low high wi wj trace survivors positions counts r survivors' positions' counts' → S ≡ samples_in pattern
-    → HostSearch (samples_in pattern) low high wi wj trace survivors positions counts r survivors' positions' counts'
-samples_searched pattern p e = rw e at p

@@ -8,6 +8,8 @@ use Rattle.order.specs.Witnesses.{witness_i_table, witness_j_table}
 use Rattle.order.specs.Written.{over}
 use Rattle.sizes.specs.Lengths.{Room}
 use Rattle.words.specs.Bytes.{bytes_of}
+use Rattle.host_calls.specs.declared.lent.Buffers.{Buffers}
+use Rattle.host_calls.specs.declared.lent.TableBuffers.{TableBuffers}
 
 -- the pattern's four tables are written, as bytes, over what the host's held
 pub record TablesPut (P : List ℤ) (low high wi wj low' high' wi' wj' : List ℕ) : Type 0 where
@@ -26,8 +28,12 @@ pub record Fits (P : List ℤ) (low high wi wj trace kept listed windows : ℕ) 
   pub kept_room : windows ≤ kept / 4
   pub listed_room : windows ≤ listed / 4
 
--- arrays for traces of so many samples
-pub record Arrays (most samples keeps lists : ℕ) : Type 0 where
-  pub samples_long : most ≤ samples
-  pub keeps_long : most ≤ keeps
-  pub lists_long : most ≤ lists
+-- the same references, whatever stands behind them
+abbrev pub SameTables : TableBuffers → TableBuffers → Type 0
+SameTables old new =
+    (new.low.ghost_name ≡ old.low.ghost_name) × (new.high.ghost_name ≡ old.high.ghost_name) × (new.witness_i.ghost_name ≡ old.witness_i.ghost_name)
+    × (new.witness_j.ghost_name ≡ old.witness_j.ghost_name)
+
+abbrev pub SameBuffers : Buffers → Buffers → Type 0
+SameBuffers old new =
+    (new.survivors.ghost_name ≡ old.survivors.ghost_name) × (new.positions.ghost_name ≡ old.positions.ghost_name) × (new.counts.ghost_name ≡ old.counts.ghost_name)

@@ -6,6 +6,7 @@
 
 #![tactic(auto)]
 
+mod lent;
 mod preparing;
 mod reading;
 mod searching;

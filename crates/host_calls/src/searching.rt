@@ -8,40 +8,40 @@ ghost use Rattle.sizes.specs.Lengths.{Room};
 ghost use Rattle.search.specs.SearchPromise.{SearchPromise};
 ghost use Rattle.words.specs.Bytes.{first_entries};
 
+use crate::lent::Tables;
 use crate::reading::front;
 use order::{Counts, Refusal};
 
-// Searches by a pattern's samples and the host's tables, into lists of numbers.
-pub(crate) fn search_by(
-    pattern: &[i32],
-    low: &[u8],
-    high: &[u8],
-    witness_i: &[u8],
-    witness_j: &[u8],
-    trace: &[i32],
-    kept: &mut [u32],
-    listed: &mut [u32],
-) -> Result<Counts, Refusal>
-    requires { Room (length pattern.now) (length low.now / 2) (length high.now / 2) (length witness_i.now / 2) (length witness_j.now / 2) }
-    ensures { SearchPromise pattern.now (first_entries low.now (length pattern.now)) (first_entries high.now (length pattern.now)) (first_entries witness_i.now (length pattern.now)) (first_entries witness_j.now (length pattern.now)) trace.now kept.old listed.old result kept.new listed.new }
-{
-    let m = pattern.len();
-    let mut lows = [0u16; 1024];
-    front(low, m, &mut lows);
-    let mut highs = [0u16; 1024];
-    front(high, m, &mut highs);
-    let mut is = [0u16; 1024];
-    front(witness_i, m, &mut is);
-    let mut js = [0u16; 1024];
-    front(witness_j, m, &mut js);
-    search::search(
-        pattern,
-        &lows[0..m],
-        &highs[0..m],
-        &is[0..m],
-        &js[0..m],
-        trace,
-        kept,
-        listed,
-    )
+impl Tables<'_> {
+    // Searches by a pattern's samples and its tables, into lists of numbers. Four arrays, since `search` takes four slices.
+    pub(crate) fn search(
+        self,
+        pattern: &[i32],
+        trace: &[i32],
+        kept: &mut [u32],
+        listed: &mut [u32],
+    ) -> Result<Counts, Refusal>
+        requires { Room (length pattern.now) (length self.low.now / 2) (length self.high.now / 2) (length self.witness_i.now / 2) (length self.witness_j.now / 2) }
+        ensures { SearchPromise pattern.now (first_entries self.entry.low.now (length pattern.now)) (first_entries self.entry.high.now (length pattern.now)) (first_entries self.entry.witness_i.now (length pattern.now)) (first_entries self.entry.witness_j.now (length pattern.now)) trace.now kept.old listed.old result kept.new listed.new }
+    {
+        let m = pattern.len();
+        let mut lows = [0u16; 1024];
+        front(self.low, m, &mut lows);
+        let mut highs = [0u16; 1024];
+        front(self.high, m, &mut highs);
+        let mut is = [0u16; 1024];
+        front(self.witness_i, m, &mut is);
+        let mut js = [0u16; 1024];
+        front(self.witness_j, m, &mut js);
+        search::search(
+            pattern,
+            &lows[0..m],
+            &highs[0..m],
+            &is[0..m],
+            &js[0..m],
+            trace,
+            kept,
+            listed,
+        )
+    }
 }

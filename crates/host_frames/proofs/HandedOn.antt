@@ -1,12 +1,12 @@
 -- Shows: what is handed to the host of a frame's answer, case by case, and that nothing else can be.
 -- Assumes nothing.
 use Prim.Native.Nat.{ℕ}
-use mathlib.Core.Path.{◌≡◌, refl, sym, ◌∙◌, ap}
+use mathlib.Core.Path.{◌≡◌, refl, sym, ◌∙◌}
 use mathlib.Core.List.{List}
-use Rattle.std.specs.Prelude.{Result, Ok, Err}
+use Rattle.std.specs.Prelude.{Result, Err}
 use Rattle.order.specs.declared.refusal.Refusal.{Refusal}
 use Rattle.order.specs.Refusals.{Verdict}
-use Rattle.order.proofs.Answered.{ok_accepted, err_refused}
+use Rattle.order.proofs.Answered.{err_refused}
 use Rattle.frames.specs.declared.answers.Sighted.{Sighted}
 use Rattle.frames.specs.FramePromise.{sighted_of, buffers_verdict, FramePromise}
 use Rattle.host_answers.specs.Results.{refusal_result}
@@ -27,19 +27,6 @@ module _ (F : List ℕ) (height width pitch : ℕ) (Q : List ℕ) (h k : ℕ) (b
         places_after = rw w refl;
         found_after = rw w refl;
         exact = λ z. absurd (told-apart verdict why w (rw w (sym e ∙ z)));
-      }
-
-  pub frame-done : {answer : Result Sighted Refusal} {s : Sighted} {after : List ℕ} → answer ≡ Ok s → FramePromise F height width pitch Q h k before answer after
-      → HostFrame F height width pitch Q h k before places found 0 after s.places s.found
-  frame-done {answer} {s} g p =
-      let d = ok_accepted verdict (sighted_of F height width pitch Q h k) (sym g ∙ p.answer) in
-      let w = d.0 in
-      record {
-        result = rw w refl;
-        positions_after = p.positions_after;
-        places_after = rw w (ap (λ (s : Sighted). s.places) d.1);
-        found_after = rw w (ap (λ (s : Sighted). s.found) d.1);
-        exact = λ z. p.exact s g;
       }
 
   -- no second number, and no other content of what was lent

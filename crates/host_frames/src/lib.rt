@@ -9,7 +9,8 @@ ghost use Rattle.host_frames.specs.Promises.{HostFrame};
 
 use host_answers::{ACCEPTED, result_of};
 
-// Seeks a patch of h rows and k columns in a frame: its places are listed, and their number and how many were found are stored, or nothing is.
+// Seeks a patch of h rows and k columns in a frame: its places are listed, and their number and how many were found are stored, or nothing
+// is. The parameters are those of the exported `tension_frame`, one for one.
 pub fn search(
     samples: &[u16],
     height: usize,

@@ -1,7 +1,7 @@
 -- Shows: what is handed to the host of a reading's answer and of a writing's, case by case, and that nothing else can be.
 -- Assumes nothing.
 use Prim.Native.Nat.{ℕ}
-use mathlib.Core.Path.{◌≡◌, refl, sym, ◌∙◌, ap}
+use mathlib.Core.Path.{◌≡◌, refl, sym, ◌∙◌}
 use mathlib.Core.List.{List}
 use lib.IntN.{ℤ}
 use Rattle.std.specs.Prelude.{Result, Ok, Err}
@@ -28,19 +28,6 @@ module _ (bs : List ℕ) (samples : List ℤ) (count first : ℕ) where
         count_after = rw w refl;
         first_after = rw w refl;
         pointed = λ z. absurd (told-apart (read_verdict bs (length samples)) why w (rw w (sym e ∙ z)));
-      }
-
-  pub read_done : {answer : Result Reading Refusal} {told : Reading} {samples' : List ℤ} → answer ≡ Ok told → ReadPromise bs samples answer samples'
-      → HostRead bs samples count first 0 samples' told.count told.first
-  read_done {answer} {told} g p =
-      let d = ok_accepted (read_verdict bs (length samples)) (reading_of bs) (sym g ∙ p.answer) in
-      let w = d.0 in
-      record {
-        result = rw w refl;
-        samples_after = p.samples_after;
-        count_after = rw w (ap (λ (r : Reading). r.count) d.1);
-        first_after = rw w (ap (λ (r : Reading). r.first) d.1);
-        pointed = λ z. p.pointed told g;
       }
 
   -- no second number, and no other content of what was lent

@@ -24,7 +24,8 @@ pub fn read(bytes: &[u8], samples: &mut [i32], count: &mut usize, first: &mut us
     }
 }
 
-// Writes samples behind the first k bytes of a buffer: samples, trailer and the new length are stored, or nothing is.
+// Writes samples behind the first k bytes of a buffer: samples, trailer and the new length are stored, or nothing is. The parameters are
+// those of the exported `tension_write`, one for one: the buffer whole, since it also has room for what is written.
 pub fn write(buffer: &mut [u8], k: usize, samples: &[i32], length: &mut usize) -> u64
     ensures { HostWrite buffer.old k samples.now length.old result buffer.new length.new }
 {

@@ -14,7 +14,7 @@ use order::Refusal;
 use tables::prepare_neighbours;
 
 // Writes the neighbour tables of a list of grey levels, or refuses and writes nothing: 1, 2, and 3 on these two tables. No level is a
-// lost stitch.
+// lost stitch. Two tables and no struct: the promise names each, and `tables::prepare` has four.
 pub fn level_neighbours(grey: &[u16], low: &mut [u16], high: &mut [u16]) -> Result<(), Refusal>
     ensures { NeighboursPromise (levels grey.now (length grey.now)) low.old high.old result low.new high.new }
 {

@@ -5,7 +5,8 @@
 ghost use Rattle.std.specs.Prelude.{◌≡◌};
 ghost use Rattle.lists.specs.Lists.{listed, listed_count};
 
-// Lists a window that passed all its places, if there is room, and answers how many are listed then.
+// Lists a window that passed all its places, if there is room, and answers how many are listed then. The count comes beside the buffer and
+// not in a struct with it: the promises of this function, `listed` and `listed_count`, take the two apart, and C hands over the buffer alone.
 pub fn list_one(list: &mut [u32], found: usize, x: u32, whole: bool) -> usize
     ensures { (list.new ≡ listed list.old found x whole) × (result ≡ listed_count list.old found whole) }
 {

@@ -1,5 +1,6 @@
 // The words that every crate of the library shares: how two samples compare, the three kinds of number that look alike,
-// the limits, and the refusals. The rules themselves are definitions, in specs/.
+// the limits, the refusals, what a test or a meeting comes to, and the counts of a search. The rules themselves are
+// definitions, in specs/.
 //
 // Follows docs/RULES.md, "Sizes", "Relation", "Test of a place" and "Refusals". Each function takes a handful of steps and assumes nothing.
 

@@ -12,11 +12,11 @@ pub const RECORDING_LIMIT: usize = 65536;
 // The longest input of the program, in bytes.
 pub const INPUT_LIMIT: usize = 16384;
 
-// A table entry that names no place.
+// A table entry that names no place. A number and not an `Option`: the rules fix it, and C hosts keep tables of 16-bit entries.
 pub const NONE: u16 = 65535;
 
-// An entry of the survivors or positions buffer that holds no window.
+// An entry of the survivors or positions buffer that holds no window. A number: C hosts read these buffers, and the rules fix it.
 pub const UNUSED: u32 = 4294967295;
 
-// A sample that is no tension: a lost stitch.
+// A sample that is no tension: a lost stitch. A number: traces and recordings hold samples of 32 bits, and the rules fix it.
 pub const LOST: i32 = -2147483648;

@@ -16,7 +16,7 @@ fn under_high(high: u16, v: &[i32], j: usize, spent: u32) -> Tested
     requires { (j < length v.now) × (spent ≤ 1) }
     ensures { result ≡ under_high_lem v.now high j spent }
 {
-    let above = high as usize;
+    let above = usize::from(high);
     if v.len() <= above {
         return Tested::Passed(spent);
     }
@@ -31,7 +31,7 @@ pub fn test_place(low: u16, high: u16, v: &[i32], j: Place) -> Tested
     ensures { result ≡ test_by v.now low high j.0 }
 {
     let here = j.0;
-    let below = low as usize;
+    let below = usize::from(low);
     if v.len() <= here {
         return Tested::Passed(0);
     }

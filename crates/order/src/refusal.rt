@@ -28,7 +28,7 @@ impl Table {
         }
     }
 
-    // The number of the refusal that names the table.
+    // The number of the refusal that names the table. A table of its own: that each is 13 more than the table's number is no rule.
     fn foreign_number(self) -> usize
         ensures { result ≡ foreign_number_lem self }
     {

@@ -39,28 +39,21 @@ fn read_small_sample(input: &mut Stdin) -> i32 {
     i32::from(i8::from_le_bytes(next(input)))
 }
 
-// The front of a buffer, so many entries of it or all that there are.
+// The front of a buffer, so many entries of it or all that there are. The stream tells a count apart from the entries, and this makes of
+// buffer and count the slice that everything else takes.
 pub(crate) fn lend<T>(list: &mut [T], count: usize) -> &mut [T] {
     let n = count.min(list.len());
     &mut list[..n]
 }
 
-// Fills a list, entry by entry.
-fn fill<T: Copy, F: Fn(&mut Stdin) -> T>(input: &mut Stdin, list: &mut [T], next: F)
-    requires { F.IsAlwaysCallable next }
-{
-    for x in list.iter_mut() {
-        *x = next(input);
-    }
-}
-
 // A list of samples: a count, a width, and the samples of that many bytes; of no bytes, one sample that stands for all.
 pub(crate) fn read_samples<'a>(input: &mut Stdin, samples: &'a mut [i32]) -> &'a [i32] {
     let list = lend(samples, read_long(input));
+    // The width is looked at here alone: an enum would be made of the byte by this same match, and be taken apart by one more.
     match read_byte(input) {
         0 => list.fill(read_sample(input)),
-        1 => fill(input, list, read_small_sample),
-        _ => fill(input, list, read_sample),
+        1 => list.fill_with(|| read_small_sample(input)),
+        _ => list.fill_with(|| read_sample(input)),
     }
     list
 }
@@ -68,7 +61,7 @@ pub(crate) fn read_samples<'a>(input: &mut Stdin, samples: &'a mut [i32]) -> &'a
 // A list of table entries, with their count before them.
 pub(crate) fn read_entries<'a>(input: &mut Stdin, entries: &'a mut [u16]) -> &'a [u16] {
     let list = lend(entries, read_length(input));
-    fill(input, list, read_short);
+    list.fill_with(|| read_short(input));
     list
 }
 

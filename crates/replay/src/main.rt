@@ -35,8 +35,49 @@ const TEXT: usize = 40000;
 
 const CASES: usize = 1000000;
 
+// The four tables of a pattern, each as long as a case may ask for.
+#[derive(Clone, Copy)]
+struct Tables {
+    low: [u16; TABLE],
+    high: [u16; TABLE],
+    witness_i: [u16; TABLE],
+    witness_j: [u16; TABLE],
+}
+
+impl Tables {
+    // With one value in every entry.
+    fn filled(value: u16) -> Tables {
+        Tables {
+            low: [value; TABLE],
+            high: [value; TABLE],
+            witness_i: [value; TABLE],
+            witness_j: [value; TABLE],
+        }
+    }
+
+    // Changes one entry of the table that is meant, if there are such a table and such an entry.
+    fn damage(&mut self, input: &mut Stdin) {
+        let table = read_byte(input);
+        let entry = read_length(input);
+        let value = read_short(input);
+        // The table's number is looked at here alone: a `Table` would be made of it by this same match, and be taken apart by one more.
+        let entries = match table {
+            1 => &mut self.low,
+            2 => &mut self.high,
+            3 => &mut self.witness_i,
+            4 => &mut self.witness_j,
+            _ => return,
+        };
+        if let Some(x) = entries.get_mut(entry) {
+            *x = value;
+        }
+    }
+}
+
 // ---- preparation
 
+// How a call ended. Four of these (`show_prepared`, `show_searched`, `show_agreement`, `show_reading`): one would take the word and a
+// closure for what `Ok` prints, which is all they have.
 fn show_prepared(rt: &impl Print, answer: Result<(), Refusal>) -> io::Result<()> {
     print!(rt; "prepare")?;
     match answer {
@@ -49,14 +90,11 @@ fn show_prepared(rt: &impl Print, answer: Result<(), Refusal>) -> io::Result<()>
 fn replay_prepare(input: &mut Stdin, rt: &impl Print) -> io::Result<()> {
     let mut samples = [0i32; TABLE];
     let pattern = read_samples(input, &mut samples);
-    let mut lows = [GUARD16; TABLE];
-    let mut highs = [GUARD16; TABLE];
-    let mut is = [GUARD16; TABLE];
-    let mut js = [GUARD16; TABLE];
-    let low = lend(&mut lows, read_length(input));
-    let high = lend(&mut highs, read_length(input));
-    let witness_i = lend(&mut is, read_length(input));
-    let witness_j = lend(&mut js, read_length(input));
+    let mut own = Tables::filled(GUARD16);
+    let low = lend(&mut own.low, read_length(input));
+    let high = lend(&mut own.high, read_length(input));
+    let witness_i = lend(&mut own.witness_i, read_length(input));
+    let witness_j = lend(&mut own.witness_j, read_length(input));
     show_prepared(
         rt,
         tables::prepare(pattern, low, high, witness_i, witness_j),
@@ -80,51 +118,27 @@ fn show_searched(rt: &impl Print, answer: Result<Counts, Refusal>) -> io::Result
     }
 }
 
-// Changes an entry of a table, if there is such an entry.
-fn alter(table: &mut [u16], entry: usize, value: u16) {
-    if let Some(x) = table.get_mut(entry) {
-        *x = value;
-    }
-}
-
-// Changes one entry of the table that is meant, if there is such a table.
-fn damage(
-    input: &mut Stdin,
-    low: &mut [u16],
-    high: &mut [u16],
-    witness_i: &mut [u16],
-    witness_j: &mut [u16],
-) {
-    let table = read_byte(input);
-    let entry = read_length(input);
-    let value = read_short(input);
-    match table {
-        1 => alter(low, entry, value),
-        2 => alter(high, entry, value),
-        3 => alter(witness_i, entry, value),
-        4 => alter(witness_j, entry, value),
-        _ => {}
-    }
-}
-
 // Searches the trace that follows by a pattern's tables, with some entries damaged, at the lengths that come before the damages, and into
 // buffers of the lengths after the trace.
 fn replay_search(input: &mut Stdin, rt: &impl Print) -> io::Result<()> {
     let mut samples = [0i32; TABLE];
     let pattern = read_samples(input, &mut samples);
-    let mut low = [0u16; TABLE];
-    let mut high = [0u16; TABLE];
-    let mut witness_i = [0u16; TABLE];
-    let mut witness_j = [0u16; TABLE];
+    let mut own = Tables::filled(0);
     // A pattern that is refused leaves the tables as they are.
-    let _ = tables::prepare(pattern, &mut low, &mut high, &mut witness_i, &mut witness_j);
+    let _ = tables::prepare(
+        pattern,
+        &mut own.low,
+        &mut own.high,
+        &mut own.witness_i,
+        &mut own.witness_j,
+    );
     read_byte(input);
     let a = read_length(input);
     let b = read_length(input);
     let c = read_length(input);
     let d = read_length(input);
     for _ in 0..read_byte(input) {
-        damage(input, &mut low, &mut high, &mut witness_i, &mut witness_j);
+        own.damage(input);
     }
     let mut trace = [0i32; TRACE];
     let trace = read_samples(input, &mut trace);
@@ -134,10 +148,10 @@ fn replay_search(input: &mut Stdin, rt: &impl Print) -> io::Result<()> {
     let positions = lend(&mut positions, read_long(input));
     let answer = search::search(
         pattern,
-        lend(&mut low, a),
-        lend(&mut high, b),
-        lend(&mut witness_i, c),
-        lend(&mut witness_j, d),
+        lend(&mut own.low, a),
+        lend(&mut own.high, b),
+        lend(&mut own.witness_i, c),
+        lend(&mut own.witness_j, d),
         trace,
         survivors,
         positions,
@@ -214,6 +228,7 @@ fn show_reported(rt: &impl Print, answer: Result<usize, ShortText>, text: &[u8])
     }
 }
 
+// Only the two lines that read the bytes are `replay_read`'s: the buffer has another type, length and guard, and the call is another.
 fn replay_report(input: &mut Stdin, rt: &impl Print) -> io::Result<()> {
     let mut bytes = [0u8; BYTES];
     let bytes = read_bytes(input, &mut bytes);
@@ -227,6 +242,7 @@ fn replay_report(input: &mut Stdin, rt: &impl Print) -> io::Result<()> {
 fn main(rt: HostRuntime) -> io::Result<()> {
     let mut input = rt.stdin();
     for _ in 0..CASES {
+        // The kind is looked at here alone: an enum would be made of the byte by this same match, and be taken apart by one more.
         match read_byte(&mut input) {
             1 => replay_prepare(&mut input, &rt)?,
             2 => replay_search(&mut input, &rt)?,

@@ -15,7 +15,7 @@ pub(crate) const GUARD32: u32 = 2863311530;
 
 pub(crate) const GUARD_SAMPLE: i32 = -1431655766;
 
-// A refusal's number and place, at a line's end.
+// A refusal's number and place, at a line's end. No `Display` of `Refusal`: each program says it in words of its own.
 pub(crate) fn refusal(rt: &impl Print, why: Refusal) -> io::Result<()> {
     let number = why.number();
     let place = why.place();

@@ -1,6 +1,5 @@
 -- The laws that the functions' proofs cite, in the order of the argument.
 pub mod Numerals
-pub mod Putting
 pub mod Printing
 pub mod Steps
 pub mod Reports

@@ -2,7 +2,7 @@
 -- Assumes nothing.
 use Prim.Native.Nat.{ℕ, ◌-◌, ◌≤◌, ◌<◌}
 use mathlib.Core.Path.{◌≡◌, refl, sym, ◌∙◌, ap, ap₂}
-use mathlib.Core.List.{List, ◌++◌}
+use mathlib.Core.List.{List, [], ◌++◌}
 use native.Mathlib.Omega.{arith}
 use Rattle.std.specs.Prelude.{Result, Ok, Err}
 use lib.IntN.{ℤ}
@@ -28,7 +28,6 @@ use Rattle.recording.specs.Readings.{reading_of}
 use Rattle.recording.specs.Promises.{ReadPromise}
 use Rattle.recording.proofs.Readings.{read_accepted}
 use Rattle.report.specs.Inside.{Listed}
-use Rattle.report.specs.Promises.{text_room}
 use Rattle.order.specs.Sizes.{input_limit}
 use Rattle.report.specs.Texts.{pattern_room, trace_room, ascii, refusal_line, counts_line, lines, blank, after_search, after_preparation, after_pattern, after_trace, text_of}
 
@@ -46,9 +45,6 @@ module _ {bs : List ℕ} {before after : List ℤ} {r : Result Reading Refusal} 
 
   pub read_few : length after ≡ length before → told.count ≤ length after
   read_few l = let a = (read_accepted bs (length before) from.0).3 in let e = from.1 in omega arith
-
-  pub read_before : told.first ≤ length bs
-  read_before = let b = (p.pointed told d).up_to in omega arith
 
   samples-are : first told.count after ≡ samples_of bs
   unfolding samples_of
@@ -167,5 +163,9 @@ pub found_few : {P T : List ℤ} {low high wi wj kept listed : List ℕ} {r : Re
 found_few {listed' = listed'} {c = c} p d = let n = (p.demands c d).listed_number in let l = length-take c.found listed' in omega arith
 
 -- so their lines have room
-pub answer-room : {room held found : ℕ} → found ≤ held → held ≡ trace_room → text_room ≤ room → Listed room held found
-answer-room h e r = record { holds = h; fits = omega arith }
+pub answer-room : {before : List ℕ} {held found : ℕ} → before ≡ [] → found ≤ held → held ≡ trace_room → Listed (length before) held found
+answer-room b h e = let none = ap length b in record { holds = h; fits = omega arith }
+
+-- what is put where nothing was is all of the text
+pub alone : {text line before after : List ℕ} → before ≡ [] → text ≡ line → after ≡ before ++ line → after ≡ text
+alone {line = line} b e p = p ∙ ap (λ l. l ++ line) b ∙ sym e

@@ -4,20 +4,17 @@
 // Follows docs/RULES.md, "The program". Takes the time of the four calls, and about 70 KB of stack: the samples, tables and buffers
 // of the largest input, and the text, which is made whole before any byte of it is handed over.
 
-ghost use Rattle.std.specs.Prelude.{◌+◌, ◌≤◌, length};
+ghost use Rattle.std.specs.Prelude.{◌≡◌, [], ◌+◌, ◌≤◌, length};
 ghost use Rattle.report.specs.Texts.{text_of};
-ghost use Rattle.report.specs.Inside.{refusal_room, Put, Said};
+ghost use Rattle.report.specs.Inside.{refusal_room, Said};
 ghost use Rattle.report.specs.Promises.{text_room, ReportPromise};
 
 use crate::lines::{put_answer, put_refusal};
-use crate::texts::put_text;
+use crate::texts::Text;
 use order::{INPUT_LIMIT, Refusal};
 use recording::{Reading, read};
 use search::search;
 use tables::prepare;
-
-// A buffer of so many bytes has room for every text.
-pub const TEXT_ROOM: usize = 24576;
 
 // The samples that the buffers hold.
 const PATTERN_ROOM: usize = 1024;
@@ -29,20 +26,19 @@ const TRACE_ROOM: usize = 2048;
 pub struct ShortText(pub usize);
 
 // The line of an answer, if it is a refusal.
-fn put_unanswered<T: Copy>(text: &mut [u8], word: &[u8], answer: Result<T, Refusal>) -> usize
-    requires { length word.now + refusal_room ≤ length text.old }
-    ensures { Said text.old word.now answer text.new result }
+fn put_unanswered<T: Copy>(text: &mut Text, word: &[u8], answer: Result<T, Refusal>)
+    requires { length text.old + length word.now + refusal_room ≤ text_room }
+    ensures { Said text.old word.now answer text.new }
 {
-    let Err(why) = answer else {
-        return 0;
-    };
-    put_refusal(text, word, why)
+    if let Err(why) = answer {
+        put_refusal(text, word, why);
+    }
 }
 
-// The text of an input, at the front of a buffer, and its length.
-fn compose(input: &[u8], text: &mut [u8]) -> usize
-    requires { text_room ≤ length text.old }
-    ensures { Put text.old 0 (text_of input.now) text.new result }
+// Puts the text of an input. Four arrays for the tables, since `prepare` and `search` take four slices.
+fn compose(input: &[u8], text: &mut Text)
+    requires { text.old ≡ [] }
+    ensures { text.new ≡ text_of input.now }
 {
     if INPUT_LIMIT < input.len() {
         return put_refusal(text, b"input", Refusal::LongInput);
@@ -80,18 +76,20 @@ fn compose(input: &[u8], text: &mut [u8]) -> usize
     let Ok(counts) = searched else {
         return put_unanswered(text, b"search", searched);
     };
-    put_answer(text, counts, &positions)
+    put_answer(text, counts, &positions);
 }
 
 // Writes the text of an input into a lent buffer, from byte 0 on, if it fits, and answers its length.
 pub fn report(input: &[u8], out: &mut [u8]) -> Result<usize, ShortText>
     ensures { ReportPromise input.now out.old result out.new }
 {
-    let mut text = [0u8; TEXT_ROOM];
-    let length = compose(input, &mut text);
+    let mut text = Text::new();
+    compose(input, &mut text);
+    let bytes = text.as_bytes();
+    let length = bytes.len();
     if out.len() < length {
         return Err(ShortText(length));
     }
-    put_text(out, 0, &text[0..length]);
+    out[..length].copy_from_slice(bytes);
     Ok(length)
 }

@@ -1,7 +1,7 @@
 -- Shows: what the tests of one survivor of a steady pattern leave is what the rules' sweep leaves, at one comparison for each sample after
 -- the first.
 -- Assumes nothing.
-use Prim.Native.Nat.{ℕ, ◌+◌, ◌-◌, ◌≤◌, ◌<◌, max}
+use Prim.Native.Nat.{ℕ, zero, suc, ◌+◌, ◌-◌, ◌≤◌, ◌<◌, max}
 use mathlib.Core.Path.{◌≡◌, refl, sym, ◌∙◌, ap, ap₂, subst}
 use mathlib.Core.List.{List}
 use mathlib.Core.Bool.{Bool, true, false, cond}
@@ -92,3 +92,15 @@ module _ {P T : List ℤ} {way : Ordering} {x from before e spent : ℕ} (s : St
         swept_one = subst (λ (r : ℕ). SweptOne P T x from before r spent true) (sym place_of) (came_through placed (omega arith));
         cheap = omega arith;
       }
+
+-- and so on, as far as the samples go the pattern's way
+pub climbs_far : {P T : List ℤ} {way : Ordering} {x from before e spent : ℕ} → Steady P way → Climbs P T x from before e spent
+    → (n : ℕ) → n ≤ x + length P - e → ((k : ℕ) → k < n → told T (e + k) (e + k - 1) way ≡ true) → Climbs P T x from before (e + n) (spent + n)
+climbs_far {e = e} {spent = spent} s c zero h g =
+    let a : e + 0 ≡ e = omega arith in
+    let b : spent + 0 ≡ spent = omega arith in
+    rw (a, b) c
+climbs_far {e = e} {spent = spent} s c (suc n) h g =
+    let a : e + suc n ≡ e + n + 1 = omega arith in
+    let b : spent + suc n ≡ spent + n + 1 = omega arith in
+    rw (a, b) (climbs_on s (climbs_far s c n (omega arith) (λ k l. g k (omega arith))) (omega arith) (g n (omega arith)))

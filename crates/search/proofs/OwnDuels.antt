@@ -1,6 +1,6 @@
 -- Shows: by the entries of the pattern's own witness tables two windows meet as the rules say, so that the duels by these are the rules'
 -- duels: the survivors, and how many duels were fought.
--- Assumes nothing beyond the record `Dueling`.
+-- Assumes nothing beyond the record `Searchable`.
 use Prim.Native.Nat.{ℕ, ◌+◌, ◌-◌, ◌≤◌, ◌<◌}
 use mathlib.Core.Path.{◌≡◌, refl, sym, ◌∙◌, ap}
 use mathlib.Core.List.{List, []}
@@ -26,7 +26,7 @@ use Rattle.duels.specs.DuelPromise.{untold_at, meets_by, stack_by, duel_verdict,
 use Rattle.duels.proofs.CodeLaws.{all_clear, inside-told, none_clear, told-clear}
 use Rattle.duels.proofs.MeetingByEntries.{far_agree as far-by-entries, none_agree, some-duel}
 use Rattle.duels.proofs.Promised.{duels-accepted}
-use Rattle.search.specs.Inside.Asked.{OwnWitnesses, Dueling, SurvivorsOf}
+use Rattle.search.specs.Inside.Asked.{OwnWitnesses, Searchable, SurvivorsOf}
 
 -- ---- one meeting
 
@@ -88,12 +88,15 @@ unfolding stack_by duelled
 own-stack {P} {wi} {wj} T own = arrive-alike (meets_by P wi wj T) (meets P T) (λ x y. own_meets T x y own) (entrants P T) (stacked [] 0)
 
 -- what the promise of the duels comes to
-module _ {P : List ℤ} {wi wj : List ℕ} {T : List ℤ} {before after : List ℕ} {r : Result Duelled Unfought} (a : Dueling P wi wj T before) (p : DuelPromise P wi wj T before r after) where
+module _ {P : List ℤ} {low high wi wj : List ℕ} {T : List ℤ} {windows : ℕ} {before after : List ℕ} {r : Result Duelled Unfought} (a : Searchable P low high wi wj T windows)
+    (room : windows ≤ length before) (p : DuelPromise P wi wj T before r after) where
   passed : duel_verdict (length P) (length wi) (length wj) (length T) (length before) ≡ accepted
-  passed = duels-accepted (length P) (length wi) (length wj) (length T) (length before) a.some a.own.limit a.own.i_long a.own.j_long a.trace a.room
+  passed =
+      let n = a.number in
+      duels-accepted (length P) (length wi) (length wj) (length T) (length before) a.some a.witnesses.limit a.witnesses.i_long a.witnesses.j_long a.trace (omega arith)
 
   pub answered : r ≡ Ok (duelled_of (duelled P T) (struck P T))
-  answered = p.answer ∙ rw (passed, all_clear P wi wj (own-clear a.own)) (ap (λ s. Ok (duelled_of s (struck P T))) (own-stack T a.own))
+  answered = p.answer ∙ rw (passed, all_clear P wi wj (own-clear a.witnesses)) (ap (λ s. Ok (duelled_of s (struck P T))) (own-stack T a.witnesses))
 
   pub survivors_out : {d : Duelled} → r ≡ Ok d → SurvivorsOf P T before after d
   unfolding survivors duels
@@ -103,5 +106,5 @@ module _ {P : List ℤ} {wi wj : List ℕ} {T : List ℤ} {before after : List �
         number = ap (λ (d : Duelled). d.kept) same ∙ sym (length-reverse (duelled P T).kept);
         fought_is = ap (λ (d : Duelled). d.fought) same;
         struck_is = ap (λ (d : Duelled). d.struck) same;
-        written = p.survivors_after ∙ rw (e, own-stack T a.own) refl;
+        written = p.survivors_after ∙ rw (e, own-stack T a.witnesses) refl;
       }

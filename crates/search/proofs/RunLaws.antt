@@ -4,15 +4,17 @@
 -- Assumes nothing.
 use Prim.Native.Nat.{ℕ, zero, suc, ◌+◌, ◌-◌, ◌*◌, ◌≤◌, ◌<◌, max}
 use mathlib.Core.Path.{◌≡◌, refl, sym, ◌∙◌, ap, ap₂, subst}
-use mathlib.Core.List.{List, [], ◌∷◌}
-use mathlib.Core.Bool.{true, false}
+use mathlib.Core.List.{List, [], ◌∷◌, ◌++◌}
+use mathlib.Core.Bool.{true}
 use native.Mathlib.Omega.{arith}
 use native.Mathlib.Numerals.{add-one}
 use native.Mathlib.Nat.{zero-mul, suc-mul}
 use borrow.Author.Count.{below_more}
 use lib.IntN.{ℤ, pos}
-use lib.ListN.{length, get_or, drop, set}
-use lib.Seq.{get_or-drop}
+use lib.ListN.{length, get_or, take, drop, set, take-append-drop, length-drop}
+use lib.Seq.{get_or-drop, length-take-le}
+use borrow.Rule.Slice.PartMut.{put_mid}
+use Rattle.std.proofs.lemmas.List.{set-append_right}
 use Rattle.std.specs.declared.cmp.Ordering.{Ordering}
 use Rattle.order.specs.declared.steps.Tested.TheVariants.{Passed}
 use Rattle.order.specs.Sizes.{at}
@@ -20,25 +22,25 @@ use Rattle.order.specs.Relations.{rel, alike}
 use Rattle.order.specs.PlaceTest.{test_of}
 use Rattle.order.specs.EntryTest.{told}
 use Rattle.order.specs.Duels.{survivors}
-use Rattle.order.proofs.Tests.{clash}
-use Rattle.order.proofs.Lists.{Ascending}
 use Rattle.order.proofs.PlaceTests.{first_place_free}
 use Rattle.order.proofs.Whole.{survivors_ascend}
 use Rattle.search.specs.Inside.Asked.{Kept}
 use Rattle.search.specs.Inside.Courses.{Steady}
-use Rattle.search.specs.Inside.Runs.{GoesOn, RunOf, BlockAhead, LookOf, listed_run}
+use Rattle.search.specs.Inside.Runs.{block, GoesOn, RunOf}
 use Rattle.search.specs.Inside.Sweeps.{SweptOne, SweptTo}
-use Rattle.search.proofs.SweepSteps.{last_passed, next_swept, entry_of, mem_at, rows-number, survivor_inside}
+use Rattle.search.proofs.SweepSteps.{spaced, last_passed, next_swept, entry_of, rows-number, survivor_inside}
 
 -- ---- samples that go on
-
-pub goes_nowhere : (T : List ℤ) (e : ℕ) (way : Ordering) → GoesOn T e 0 way
-goes_nowhere T e way = record { each = λ k h. absurd (omega arith) }
 
 pub goes_further : {T : List ℤ} {e count : ℕ} {way : Ordering} → GoesOn T e count way → told T (e + 1 + count) (e + count) way ≡ true → GoesOn T e (count + 1) way
 goes_further g h = record { each = below_more _ _ g.each h }
 
 -- ---- a run in the list
+
+-- n entries of the survivors' buffer, from entry k on, listed from entry `found` on
+pub listed_run : List ℕ → ℕ → ℕ → ℕ → List ℕ → List ℕ
+listed_run buffer k found zero l = l
+listed_run buffer k found (suc n) l = set (listed_run buffer k found n l) (found + n) (get_or buffer (k + n) 0)
 
 pub listed_none : (buffer : List ℕ) (k found : ℕ) (l : List ℕ) → listed_run buffer k found 0 l ≡ l
 unfolding listed_run
@@ -48,21 +50,36 @@ pub listed_more : (buffer : List ℕ) (k found n : ℕ) (l : List ℕ) → liste
 unfolding listed_run
 listed_more buffer k found n l = rw add-one refl
 
--- ---- survivors beside each other
+-- one entry more of a list in the place of another's
+one_over : (n : ℕ) (xs ys : List ℕ) → n < length xs → n < length ys → take (suc n) xs ++ drop (suc n) ys ≡ set (take n xs ++ drop n ys) n (get_or xs n 0)
+one_over n [] ys g h = absurd (omega arith)
+one_over n (x ∷ xs) [] g h = absurd (omega arith)
+one_over zero (x ∷ xs) (y ∷ ys) g h = refl
+one_over (suc n) (x ∷ xs) (y ∷ ys) g h = ap (λ l. x ∷ l) (one_over n xs ys (omega arith) (omega arith))
 
--- entries of a list that ascends are at least as far apart as their numbers
-spaced : (xs : List ℕ) → Ascending xs → (i n : ℕ) → i + n < length xs → get_or xs i 0 + n ≤ get_or xs (i + n) 0
-spaced xs a i zero h = let same : i + 0 ≡ i = omega arith in rw same (omega arith)
-spaced xs a i (suc n) h =
-    let less = step xs a (i + n) (omega arith) in
-    let so_far = spaced xs a i n (omega arith) in
-    let same : i + suc n ≡ suc (i + n) = omega arith in
-    rw same (omega arith)
-  where
-    step : (xs : List ℕ) → Ascending xs → (i : ℕ) → suc i < length xs → get_or xs i 0 < get_or xs (suc i) 0
-    step [] a i h = absurd (omega arith)
-    step (x ∷ xs) a zero h = a.0 (get_or xs 0 0) (mem_at xs 0 (omega arith))
-    step (x ∷ xs) a (suc i) h = step xs a.1 i (omega arith)
+-- a part of the survivors copied over a part of a list is that run listed
+listed_copy : (buffer l : List ℕ) (k found n : ℕ) → k + n ≤ length buffer → found + n ≤ length l → put_mid found n l (take n (drop k buffer)) ≡ listed_run buffer k found n l
+unfolding listed_run
+listed_copy buffer l k found zero g h = take-append-drop found l
+listed_copy buffer l k found (suc n) g h =
+    let here : found + n - found ≡ n = omega arith in
+    let xs = drop k buffer in
+    let ys = drop found l in
+    let a = length-drop k buffer in
+    let b = length-drop found l in
+    ap (λ t. take found l ++ t) (one_over n xs ys (omega arith) (omega arith) ∙ ap (λ i. set (take n xs ++ drop n ys) i (get_or xs n 0)) (sym here)) ∙
+    sym (set-append_right (take found l) (take n xs ++ drop n ys) found (found + n) (get_or xs n 0) (length-take-le found l (omega arith)) (omega arith)) ∙
+    ap₂ (λ t v. set t (found + n) v) (listed_copy buffer l k found n (omega arith) (omega arith)) (get_or-drop k buffer n 0)
+
+-- a block of them, as the code copies it
+pub block_listed : (buffer l : List ℕ) (k found : ℕ) {copied : List ℕ} → k + block ≤ length buffer → found + block ≤ length l → copied ≡ take (k + block - k) (drop k buffer)
+    → put_mid found (found + block - found) l copied ≡ listed_run buffer k found block l
+block_listed buffer l k found g h e =
+    let n : found + block - found ≡ block = omega arith in
+    let m : k + block - k ≡ block = omega arith in
+    rw n (ap (put_mid found block l) (e ∙ ap (λ (i : ℕ). take i (drop k buffer)) m) ∙ listed_copy buffer l k found block g h)
+
+-- ---- survivors beside each other
 
 module _ {P T : List ℤ} {buffer : List ℕ} {kept : ℕ} (rows : Kept P T buffer kept) where
   -- as far apart in the buffer
@@ -131,10 +148,6 @@ module _ {P T : List ℤ} {buffer : List ℕ} {kept : ℕ} (rows : Kept P T buff
           passes = λ i h. stepped s some (omega arith) goes i (omega arith);
         }
 
--- where there is none
-pub no_block : (P T : List ℤ) (buffer : List ℕ) (kept k reach : ℕ) → k < kept → (BlockAhead P buffer kept k reach → ⊥) → LookOf P T buffer kept k reach false 0
-no_block P T buffer kept k reach h n = record { passing = λ e. clash e refl; looked = λ b m. absurd (n b); few = omega arith; ahead = omega arith }
-
 -- ---- a block swept
 
 -- the same under other names of its numbers
@@ -143,7 +156,7 @@ swept_to_as : {P T : List ℤ} {kept : ℕ} {before l l' : List ℕ} {k k' reach
 swept_to_as a b c d e s = rw (a, b, c, d, e) s
 
 module _ {P T : List ℤ} {buffer : List ℕ} {kept k reach windows total : ℕ} (r : RunOf P T buffer kept k reach windows total) (rows : Kept P T buffer kept)
-    (some : 0 < length P) {before after : List ℕ} {spent found : ℕ} (room : kept ≤ length before) (s : SweptTo P T kept before after k reach spent found) where
+    (some : 0 < length P) {before after : List ℕ} {spent found : ℕ} (s : SweptTo P T kept before after k reach spent found) where
   -- window n of the run is swept by its last place's test alone
   one_swept : (n : ℕ) → n < windows → SweptOne P T (r.x + n) (max (reach + n) (r.x + n)) (spent + n * r.each) (r.x + n + length P) (spent + n * r.each + r.each) true
   one_swept n h =
@@ -166,7 +179,7 @@ module _ {P T : List ℤ} {buffer : List ℕ} {kept k reach windows total : ℕ}
       swept_to_as
       (ap (λ (m : ℕ). listed_run buffer k found m after) (sym (add-one n)) ∙ listed_more buffer k found n after ∙ ap (set (listed_run buffer k found n after) (found + n)) e)
       (omega arith) (omega arith) (omega arith) (omega arith)
-      (next_swept (first-swept n (omega arith)) (omega arith) (rows-number rows) x room (one_swept n here)
+      (next_swept (first-swept n (omega arith)) (omega arith) (rows-number rows) x (one_swept n here)
       (let i = survivor_inside P T (k + n) (let m = rows-number rows in omega arith) in omega arith))
 
   pub run_swept : SweptTo P T kept before (listed_run buffer k found windows after) (k + windows) (reach + windows) (spent + total) (found + windows)

@@ -30,25 +30,35 @@ use Rattle.search.proofs.WrittenOut.{positions-few}
 
 -- ---- what an accepted search has
 
-pub search_ready : (P : List ℤ) (low high wi wj : List ℕ) (T : List ℤ) (s p : ℕ) {windows : ℕ} → Ok windows ≡ answer_by (search_verdict P low high wi wj T s p) (windows_of (length P) (length T))
-    → Searchable P low high wi wj T windows s p
-unfolding search_verdict
-search_ready P low high wi wj T s p f =
-    let v = ok_accepted (search_verdict P low high wi wj T s p) (windows_of (length P) (length T)) f in
-    let a = pattern_passed (length P) _ v.0 in
-    let l = stitches_passed P _ a.2 in
-    let b = tables_passed (length P) (length low) (length high) (length wi) (length wj) _ l.1 in
-    let c = room_passed (length P) (length T) s p _ b.4 in
-    let o = accepted-own P low high wi wj c.3 in
-    record {
-      some = a.0;
-      number = v.1;
-      neighbours = record { limit = a.1; low_room = b.0; high_room = b.1; low_own = o.0; high_own = o.1 };
-      witnesses = record { limit = a.1; i_long = b.2; j_long = b.3; i_own = o.2; j_own = o.3 };
-      trace = c.0;
-      survivors_room = c.1;
-      positions_room = c.2;
-    }
+module _ (P : List ℤ) (low high wi wj : List ℕ) (T : List ℤ) (s p : ℕ) {windows : ℕ}
+    (f : Ok windows ≡ answer_by (search_verdict P low high wi wj T s p) (windows_of (length P) (length T))) where
+  ready : Searchable P low high wi wj T windows × (windows ≤ s) × (windows ≤ p)
+  unfolding search_verdict
+  ready =
+      let v = ok_accepted (search_verdict P low high wi wj T s p) (windows_of (length P) (length T)) f in
+      let a = pattern_passed (length P) _ v.0 in
+      let l = stitches_passed P _ a.2 in
+      let b = tables_passed (length P) (length low) (length high) (length wi) (length wj) _ l.1 in
+      let c = room_passed (length P) (length T) s p _ b.4 in
+      let o = accepted-own P low high wi wj c.3 in
+      let n = v.1 in (
+        record {
+          some = a.0;
+          number = n;
+          neighbours = record { limit = a.1; low_room = b.0; high_room = b.1; low_own = o.0; high_own = o.1 };
+          witnesses = record { limit = a.1; i_long = b.2; j_long = b.3; i_own = o.2; j_own = o.3 };
+          trace = c.0;
+        },
+        omega arith,
+        omega arith,
+      )
+
+  pub search_ready : Searchable P low high wi wj T windows
+  search_ready = ready.0
+
+  -- and room for all its windows
+  pub search_room : (windows ≤ s) × (windows ≤ p)
+  search_room = (ready.1, ready.2)
 
 -- ---- the promise
 

@@ -26,7 +26,7 @@ use Rattle.order.proofs.Nearest.{Ordering, upward, turned, Neighbour, le_refl}
 use Rattle.order.proofs.NearestOnly.{nearest_only}
 use Rattle.order.proofs.PlaceTests.{iso_order}
 use Rattle.order.proofs.Witnessing.{witness_is, none_agree}
-use Rattle.search.specs.Inside.Asked.{OwnFirst}
+use Rattle.search.specs.Inside.Asked.{OwnWitnesses}
 use Rattle.search.specs.Inside.Courses.{step_test, Steady}
 
 -- ---- one way throughout, by any order of samples
@@ -150,7 +150,7 @@ module _ (P : List ℤ) (e : witness_j_of P 1 ≡ none) where
 -- ---- as the code finds it
 
 -- the entry of offset 1 tells whether it has a witness
-pub no_witness : {P : List ℤ} {wi : List ℕ} → OwnFirst P wi → 1 < length P → get_or wi 1 0 ≡ no_place → witness_j_of P 1 ≡ none
+pub no_witness : {P : List ℤ} {wi wj : List ℕ} → OwnWitnesses P wi wj → 1 < length P → get_or wi 1 0 ≡ no_place → witness_j_of P 1 ≡ none
 unfolding entry
 no_witness {P} {wi} own h e = go (witness_j_of P 1) refl
   where
@@ -161,9 +161,5 @@ no_witness {P} {wi} own h e = go (witness_j_of P 1) refl
         let a = there.2.earlier in
         let b = there.2.inside in
         let l = own.limit in
-        let same : there.0 ≡ no_place = sym (ap entry there.1) ∙ sym (own.own 1 h) ∙ e in
+        let same : there.0 ≡ no_place = sym (ap entry there.1) ∙ sym (own.i_own 1 h) ∙ e in
         absurd (omega arith)
-
--- a single sample has no steps
-pub single_steady : (P : List ℤ) (way : Comparison) → 0 < length P → length P ≤ 1 → Steady P way
-single_steady P way h k = record { some = h; steps = λ v j a b. absurd (omega arith) }

@@ -22,14 +22,15 @@ use Rattle.order.specs.Sweeping.{Swept, swept, sweep_all_lem, tests_of, swept_by
 use Rattle.order.specs.declared.refusal.Refusal.{Refusal}
 use Rattle.order.specs.Refusals.{accepted}
 use Rattle.order.specs.Written.{over, after_verdict}
-use Rattle.order.proofs.Lists.{windows_of_as}
+use Rattle.order.proofs.Lists.{Ascending, windows_of_as}
+use Rattle.order.proofs.Whole.{survivors_ascend}
 use Rattle.order.proofs.SweepLaws.{sweep_fails, sweep_lists_same}
 use borrow.Author.Tests.{le-ltb}
 use Rattle.order.proofs.PlaceTests.{test_cost, test_depends}
 use Rattle.order.proofs.TestByEntries.{test_by_own}
 use Rattle.tables.specs.Inside.Asked.{OwnNeighbours}
 use Rattle.order.proofs.Dueling.{survivors-below, duels-and-survivors}
-use Rattle.search.specs.Inside.Asked.{Kept, Sweeps}
+use Rattle.search.specs.Inside.Asked.{Kept}
 use Rattle.sweep.specs.declared.answers.Swept.{Swept as Spent}
 use Rattle.order.specs.Answers.{answer_by}
 use Rattle.sweep.specs.Sweeps.{places_of, entry_tests, inside_part, swept_of, list_verdict, spent_of, SweepPromise}
@@ -94,24 +95,51 @@ module _ (P T : List ℤ) {x from : ℕ} (before : ℕ) (begun : x ≤ from) (la
 
 -- ---- all survivors
 
-pub none_swept : (P T : List ℤ) (kept : ℕ) (before : List ℕ) → SweptTo P T kept before before 0 0 0 0
-none_swept P T kept before = record { so_far = no-window-swept (tests_of P T) (length P) (length T) (survivors P T) kept before }
+pub mem_at : (xs : List ℕ) (k : ℕ) → k < length xs → Memᴰ (get_or xs k 0) xs
+mem_at [] k h = absurd (omega arith)
+mem_at (x ∷ xs) zero h = Memᴰ.head refl
+mem_at (x ∷ xs) (suc k) h = Memᴰ.tail (mem_at xs k (omega arith))
+
+-- entries of a list that ascends are at least as far apart as their numbers
+pub spaced : (xs : List ℕ) → Ascending xs → (i n : ℕ) → i + n < length xs → get_or xs i 0 + n ≤ get_or xs (i + n) 0
+spaced xs a i zero h = let same : i + 0 ≡ i = omega arith in rw same (omega arith)
+spaced xs a i (suc n) h =
+    let less = step xs a (i + n) (omega arith) in
+    let so_far = spaced xs a i n (omega arith) in
+    let same : i + suc n ≡ suc (i + n) = omega arith in
+    rw same (omega arith)
+  where
+    step : (xs : List ℕ) → Ascending xs → (i : ℕ) → suc i < length xs → get_or xs i 0 < get_or xs (suc i) 0
+    step [] a i h = absurd (omega arith)
+    step (x ∷ xs) a zero h = a.0 (get_or xs 0 0) (mem_at xs 0 (omega arith))
+    step (x ∷ xs) a (suc i) h = step xs a.1 i (omega arith)
+
+pub none_swept : (P T : List ℤ) (kept : ℕ) (before : List ℕ) → kept ≤ length before → SweptTo P T kept before before 0 0 0 0
+none_swept P T kept before h = record { room = h; ahead = λ g. omega arith; so_far = no-window-swept (tests_of P T) (length P) (length T) (survivors P T) kept before }
 
 -- seen from where it has come to, and from where it began
 pub from_here : {P T : List ℤ} {kept : ℕ} {before l : List ℕ} {k reach spent found : ℕ} → SweptTo P T kept before l k reach spent found → SweptTo P T kept l l k reach spent found
-from_here s = record { so_far = seen-from-here s.so_far }
+from_here s = record { room = let h = s.room in let l = s.so_far.long in omega arith; ahead = s.ahead; so_far = seen-from-here s.so_far }
 
 pub from_there : {P T : List ℤ} {kept : ℕ} {before l l' : List ℕ} {k reach spent found k' reach' spent' found' : ℕ} → SweptTo P T kept before l k reach spent found
     → SweptTo P T kept l l' k' reach' spent' found' → SweptTo P T kept before l' k' reach' spent' found'
-from_there s t = record { so_far = seen-from-there s.so_far t.so_far }
+from_there s t = record { room = s.room; ahead = t.ahead; so_far = seen-from-there s.so_far t.so_far }
 
 pub next_swept : {P T : List ℤ} {kept : ℕ} {before after : List ℕ} {k reach spent found x e w : ℕ} {whole : Bool} → SweptTo P T kept before after k reach spent found → k < kept
-    → kept ≡ length (survivors P T) → x ≡ get_or (survivors P T) k 0 → kept ≤ length before → SweptOne P T x (max reach x) spent e w whole → x + length P ≤ length T
+    → kept ≡ length (survivors P T) → x ≡ get_or (survivors P T) k 0 → SweptOne P T x (max reach x) spent e w whole → x + length P ≤ length T
     → SweptTo P T kept before (cond whole (set after found x) after) (k + 1) e w (cond whole (found + 1) found)
-next_swept {P} {T} {k = k} i h number ex room r inside =
+next_swept {P} {T} {k = k} i h number ex r inside =
     let here : k < length (survivors P T) = omega arith in
     let rest = drop-cons (survivors P T) k 0 here ∙ ap₂ (λ y n. y ∷ drop n (survivors P T)) (sym ex) (sym (add-one k)) in
-    record { so_far = next-window-swept (rest_as rest i.so_far) h room r.tested inside }
+    record {
+      room = i.room;
+      ahead = λ g.
+          let a = i.ahead h in
+          let u = r.tested.until in
+          let n = spaced (survivors P T) (survivors_ascend P T) k 1 (omega arith) in
+          omega arith;
+      so_far = next-window-swept (rest_as rest i.so_far) h i.room r.tested inside;
+    }
 
 pub all_swept : {P T : List ℤ} {kept : ℕ} {before after : List ℕ} {k reach spent wasted found : ℕ} → SweptTo P T kept before after k reach spent found → kept ≤ k → kept ≡ length (survivors P T)
     → spent + wasted ≤ 2 * (length T + kept) → SweepOf P T kept before after spent wasted found
@@ -139,11 +167,6 @@ entry_of P T kept buffer k e h = sym (get_or-take kept buffer k 0 h) ∙ ap (λ 
 
 pub kept_number : (P T : List ℤ) (kept : ℕ) (buffer : List ℕ) → take kept buffer ≡ survivors P T → kept ≤ length buffer → kept ≡ length (survivors P T)
 kept_number P T kept buffer e h = sym (length-take-le kept buffer h) ∙ ap length e
-
-pub mem_at : (xs : List ℕ) (k : ℕ) → k < length xs → Memᴰ (get_or xs k 0) xs
-mem_at [] k h = absurd (omega arith)
-mem_at (x ∷ xs) zero h = Memᴰ.head refl
-mem_at (x ∷ xs) (suc k) h = Memᴰ.tail (mem_at xs k (omega arith))
 
 pub survivor_inside : (P T : List ℤ) (k : ℕ) → k < length (survivors P T) → get_or (survivors P T) k 0 + length P ≤ length T
 survivor_inside P T k h =
@@ -215,16 +238,17 @@ listed-few P T =
     let e = ap length (sweep_lists_same P T) in
     omega arith
 
-module _ {P : List ℤ} {low high : List ℕ} {T : List ℤ} {buffer before : List ℕ} (q : Sweeps P low high T buffer (length buffer) before) where
+module _ {P : List ℤ} {low high : List ℕ} {T : List ℤ} {buffer : List ℕ} (own : OwnNeighbours P low high) (rows : Kept P T buffer (length buffer))
+    (before : List ℕ) (fits : length buffer ≤ length before) where
   held : buffer ≡ survivors P T
-  held = sym (take-length buffer) ∙ q.rows.held
+  held = sym (take-length buffer) ∙ rows.held
 
   room : list_verdict buffer before ≡ accepted
   unfolding list_verdict
-  room = rw (le-ltb (length before) (length buffer) q.room) refl
+  room = rw (le-ltb (length before) (length buffer) fits) refl
 
   all : swept_of (take (length P) low) (take (length P) high) T buffer ≡ swept_by cost P T
-  all = ap (swept_of (take (length P) low) (take (length P) high) T) held ∙ own-swept T q.own
+  all = ap (swept_of (take (length P) low) (take (length P) high) T) held ∙ own-swept T own
 
   -- it is never refused
   pub mixed_answer : {r : Result Spent Refusal} {after : List ℕ} → SweepPromise (take (length P) low) (take (length P) high) T buffer before r after → r ≡ Ok (spent_of (swept_by cost P T))
@@ -236,8 +260,7 @@ module _ {P : List ℤ} {low high : List ℕ} {T : List ℤ} {buffer before : Li
   unfolding sweep_cost positions
   mixed_swept {s} {r} {after} g p =
       let few = listed-few P T in
-      let number = rows-number q.rows in
-      let fits = q.room in
+      let number = rows-number rows in
       let b = p.bound s g in
       record {
         cost_is = ap (λ (t : Spent). t.spent) told;

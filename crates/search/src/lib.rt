@@ -5,6 +5,7 @@
 
 #![tactic(auto)]
 
+mod checked;
 mod course;
 mod mixed;
 mod searching;

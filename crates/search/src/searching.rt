@@ -3,19 +3,18 @@
 // Follows docs/RULES.md, "Duels", "Sweep", "Counts", "What is written" and "Refusals" (Jargalsaikhan 2022, section 3). The pattern and the
 // sizes are looked at first, then the tables, then the work is done: a refused call has stored nothing. The duels make D comparisons of the
 // trace and the sweep at most 2(n + S), blocks and looks that fail counted in; the pattern is compared with itself besides, twice for each
-// offset with a witness or once (duels/codes.rt, course.rt). `tables::check_tables` says what the check of the tables takes.
+// offset with a witness or once (duels/codes.rt, course.rt). The head of tables/own_tables.rt says what the check takes.
 
-ghost use Rattle.std.specs.Prelude.{◌≡◌, length};
+ghost use Rattle.std.specs.Prelude.{◌≡◌, ◌≤◌, length};
 ghost use Rattle.order.specs.Sizes.{windows_of};
 ghost use Rattle.order.specs.Refusals.{search_verdict};
 ghost use Rattle.order.specs.Answers.{answer_by};
-ghost use Rattle.search.specs.Inside.Asked.{Dueling, SurvivorsOf, Sweeps, Searchable, SearchedOf};
+ghost use Rattle.search.specs.Inside.Asked.{SurvivorsOf, Kept, SearchedOf};
 ghost use Rattle.search.specs.Inside.Courses.{Chosen};
 ghost use Rattle.search.specs.Inside.Sweeps.{SweepOf};
 ghost use Rattle.search.specs.SearchPromise.{SearchPromise};
 
-use crate::course::course_of;
-use crate::mixed::sweep_mixed;
+use crate::checked::Checked;
 use crate::steady::{Effort, Survivors};
 use duels::{Duelled, duel_windows};
 use lists::fill_unused;
@@ -23,7 +22,8 @@ use order::{Counts, Refusal};
 use std::cmp::Ordering;
 
 // All the conditions of a search, in their order; where none holds, the number of windows. Where there is room, the check of the tables
-// tries all that is left, and the pattern is looked at once.
+// tries all that is left, and the pattern is looked at once. The tables come one by one, as `search` takes them: nothing is known of them
+// yet, and `Checked` is made of those that pass.
 fn check_search(
     pattern: &[i32],
     low: &[u16],
@@ -53,92 +53,78 @@ fn check_search(
     Ok(windows)
 }
 
-// The duels, by the pattern's own tables.
-fn keep_windows(
-    pattern: &[i32],
-    witness_i: &[u16],
-    witness_j: &[u16],
-    trace: &[i32],
-    survivors: &mut [u32],
-) -> Duelled
-    requires { Dueling pattern.now witness_i.now witness_j.now trace.now survivors.old }
-    ensures { SurvivorsOf pattern.now trace.now survivors.old survivors.new result }
-{
-    // the pattern, lengths and entries were looked at
-    duel_windows(pattern, witness_i, witness_j, trace, survivors).unwrap()
-}
+impl<'a> Checked<'a> {
+    // The duels, by the pattern's own tables.
+    fn keep_windows(self, survivors: &mut [u32]) -> Duelled
+        requires { self.windows ≤ length survivors.old }
+        ensures { SurvivorsOf self.entry.pattern.now self.entry.trace.now survivors.old survivors.new result }
+    {
+        // the pattern, lengths and entries were looked at
+        duel_windows(
+            self.pattern,
+            self.witness_i,
+            self.witness_j,
+            self.trace,
+            survivors,
+        )
+        .unwrap()
+    }
 
-// The sweep, the pattern's way: what it leaves, and the comparisons that it made besides those that the rules count.
-fn sweep_windows(
-    pattern: &[i32],
-    low: &[u16],
-    high: &[u16],
-    trace: &[i32],
-    survivors: &[u32],
-    course: Option<Ordering>,
-    positions: &mut [u32],
-) -> Effort
-    requires { Sweeps pattern.now low.now high.now trace.now survivors.now (length survivors.now) positions.old × Chosen pattern.now course }
-    ensures { SweepOf pattern.now trace.now (length survivors.now) positions.old positions.new result.swept.spent result.wasted result.swept.found }
-{
-    match course {
-        Some(way) => {
-            let steady = Survivors {
-                pattern,
-                trace,
-                way,
-                windows: survivors,
-            };
-            steady.sweep_steady(positions)
+    // The sweep, the pattern's way: what it leaves, and the comparisons that it made besides those that the rules count.
+    fn sweep_windows(
+        self,
+        survivors: &[u32],
+        course: Option<Ordering>,
+        positions: &mut [u32],
+    ) -> Effort
+        requires { Kept self.pattern.now self.trace.now survivors.now (length survivors.now) × (length survivors.now ≤ length positions.old) × Chosen self.pattern.now course }
+        ensures { SweepOf self.entry.pattern.now self.entry.trace.now (length survivors.now) positions.old positions.new result.swept.spent result.wasted result.swept.found }
+    {
+        // Two ways, one struct each, told apart by an `Option`: a closure for the sweep would be one of these two calls, and the contract
+        // above would be written a second time as its law.
+        match course {
+            Some(way) => {
+                let steady = Survivors {
+                    pattern: self.pattern,
+                    trace: self.trace,
+                    way,
+                    windows: survivors,
+                };
+                steady.sweep_steady(positions)
+            }
+            None => Effort {
+                swept: self.sweep_mixed(survivors, positions),
+                wasted: 0,
+            },
         }
-        None => Effort {
-            swept: sweep_mixed(pattern, low, high, trace, survivors, positions),
-            wasted: 0,
-        },
+    }
+
+    // The search itself: the duels, then the sweep, and "unused" after its list too.
+    fn run(self, survivors: &mut [u32], positions: &mut [u32]) -> Counts
+        requires { (self.windows ≤ length survivors.old) × (self.windows ≤ length positions.old) }
+        ensures { SearchedOf self.entry.pattern.now self.entry.trace.now survivors.old positions.old survivors.new positions.new result }
+    {
+        let duelled = self.keep_windows(survivors);
+        let course = self.course(); // after the duels, whose loop would keep registers for it
+        let kept = duelled.kept;
+        let swept = self
+            .sweep_windows(&survivors[..kept], course, positions)
+            .swept;
+        let found = swept.found;
+        fill_unused(&mut positions[found..self.windows]);
+        Counts {
+            windows: self.windows as u32,
+            duels: duelled.fought,
+            survivors: kept as u32,
+            sweep: swept.spent as u32,
+            found: found as u32,
+            struck: duelled.struck,
+        }
     }
 }
 
-// The search itself, of what was checked: the duels, then the sweep, and "unused" after its list too.
-fn run(
-    pattern: &[i32],
-    low: &[u16],
-    high: &[u16],
-    witness_i: &[u16],
-    witness_j: &[u16],
-    trace: &[i32],
-    windows: usize,
-    survivors: &mut [u32],
-    positions: &mut [u32],
-) -> Counts
-    requires { Searchable pattern.now low.now high.now witness_i.now witness_j.now trace.now windows (length survivors.old) (length positions.old) }
-    ensures { SearchedOf pattern.now trace.now survivors.old positions.old survivors.new positions.new result }
-{
-    let duelled = keep_windows(pattern, witness_i, witness_j, trace, survivors);
-    let course = course_of(pattern, witness_i); // after the duels, whose loop would keep registers for it
-    let kept = duelled.kept;
-    let swept = sweep_windows(
-        pattern,
-        low,
-        high,
-        trace,
-        &survivors[..kept],
-        course,
-        positions,
-    )
-    .swept;
-    let found = swept.found;
-    fill_unused(&mut positions[found..windows]);
-    Counts {
-        windows: windows as u32,
-        duels: duelled.fought,
-        survivors: kept as u32,
-        sweep: swept.spent as u32,
-        found: found as u32,
-        struck: duelled.struck,
-    }
-}
-
-// Searches a trace for the windows that are isomorphic with the pattern.
+// Searches a trace for the windows that are isomorphic with the pattern. The four tables come one by one, as callers keep them
+// (docs/DECISIONS.md, "Today's forms"): a struct of them would be built by each caller for this one call.
 pub fn search(
     pattern: &[i32],
     low: &[u16],
@@ -161,7 +147,14 @@ pub fn search(
         survivors.len(),
         positions.len(),
     )?;
-    Ok(run(
-        pattern, low, high, witness_i, witness_j, trace, windows, survivors, positions,
-    ))
+    let checked = Checked {
+        pattern,
+        low,
+        high,
+        witness_i,
+        witness_j,
+        trace,
+        windows,
+    };
+    Ok(checked.run(survivors, positions))
 }

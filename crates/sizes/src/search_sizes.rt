@@ -13,7 +13,9 @@ ghost use Rattle.sizes.specs.Lengths.{FittingPromise};
 use crate::table_sizes::for_tables;
 use order::{Refusal, TRACE_LIMIT};
 
-// N: how many windows of m samples a trace of n has.
+// N: how many windows of m samples a trace of n has. `tried` (frame_sizes) is the same sum: one for both would be public, and take any two
+// numbers, of which m = 0 with the greatest n has no answer.
+#[tactic(auto, using(order::proofs::Lists::windows_of_as))]
 fn count_windows(m: usize, n: usize) -> usize
     requires { n ≤ trace_limit }
     ensures { result ≡ windows_of m n }
@@ -41,7 +43,8 @@ pub fn for_room(m: usize, n: usize, survivors: usize, positions: usize) -> Resul
     Ok(windows)
 }
 
-// A pattern, and the lengths of its tables, of a trace and of the buffers of a search, in entries.
+// A pattern, and the lengths of its tables, of a trace and of the buffers of a search, in entries. Numbers and no slices, since a C host's
+// bytes are looked at before any list of entries is made; and no struct, which each caller would make for this one call.
 pub fn for_search(
     pattern: &[i32],
     low: usize,

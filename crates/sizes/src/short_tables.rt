@@ -6,7 +6,7 @@ ghost use Rattle.order.specs.Answers.{answer_by};
 
 use order::{Refusal, Table};
 
-// 3: the first table that is too short.
+// 3: the first table that is too short. Four numbers, as `for_tables` gets them: a struct would be taken apart again in the next line.
 pub(crate) fn check(
     m: usize,
     low: usize,

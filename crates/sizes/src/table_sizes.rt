@@ -24,7 +24,7 @@ pub fn for_pattern(m: usize) -> Result<(), Refusal>
 }
 
 // A pattern, and the lengths of its four tables, in entries. A caller that has not all four gives the pattern's length for those that it
-// hasn't.
+// hasn't. Numbers and no slices, since a C host's bytes are looked at before any list of entries is made.
 pub fn for_tables(
     pattern: &[i32],
     low: usize,

@@ -77,6 +77,10 @@ free_part l s e h k f =
           ap is_lost (ap (at l) (sym same) ∙ sym (at_part (e - s) s l (i - s) (omega arith))) ∙ holds_none (take (e - s) (drop s l)) (sym f) (i - s) (omega arith);
     }
 
+-- and one behind a stretch without one
+pub free_part_more : {l : List ℤ} {s e : ℕ} → FreeWithin l 0 s → s ≤ e → e ≤ length l → false ≡ holds_lost_lem (take (e - s) (drop s l)) → FreeWithin l 0 e
+free_part_more {l} {s} {e} b h k f = free_then b (free_part l s e h k f)
+
 -- ---- where the first is
 
 pub found_there : {l : List ℤ} {n : ℕ} → FreeWithin l 0 n → n < length l → is_lost (at l n) ≡ true → n ≡ or_end (first_lost_lem l) (length l)

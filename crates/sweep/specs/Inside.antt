@@ -4,15 +4,14 @@ use Rattle.order.specs.declared.steps.Tested.{Tested}
 use Rattle.order.specs.PlaceTest.{cost}
 use Rattle.order.specs.Written.{over}
 use Rattle.order.specs.Sweeping.{swept, tests, sweep_all_lem}
-use Rattle.sweep.specs.Sweeps.{places_of, swept_of}
+use Rattle.sweep.specs.Sweeps.{swept_of}
 
 -- no sweep of lists that a machine of 64 bits holds spends more; far from where a count would not fit
 abbrev pub count_limit : ℕ
 count_limit = 9223372036854775808
 
 -- window x of m places lies in the trace, with so much spent before its tests begin at sample `from`
-pub record Testable (low high : List ℕ) (m : ℕ) (T : List ℤ) (x from before : ℕ) : Type 0 where
-  pub places : m ≡ places_of low high
+pub record Testable (m : ℕ) (T : List ℤ) (x from before : ℕ) : Type 0 where
   pub inside : x + m ≤ length T
   pub begun : x ≤ from
   pub reached : from ≤ length T

@@ -9,5 +9,5 @@
 mod answers;
 mod sweeping;
 
-pub use answers::Swept;
+pub use answers::{Reached, Swept};
 pub use sweeping::sweep;

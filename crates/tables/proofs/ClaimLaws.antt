@@ -4,7 +4,7 @@
 use Prim.Native.Nat.{ℕ, ◌+◌, ◌≤◌, ◌<◌, min, max}
 use mathlib.Core.Path.{◌≡◌, refl, sym, ◌∙◌, ap, subst}
 use mathlib.Core.List.{List}
-use mathlib.Core.Bool.{Bool, true, false, not, cond, ◌&&◌, ◌||◌}
+use mathlib.Core.Bool.{Bool, true, false, not, cond, ◌&&◌}
 use native.Mathlib.Omega.{arith}
 use lib.Dec.{ltb, eqb}
 use lib.IntN.{ℤ, pos, ◌+ℤ◌, ◌-ℤ◌}
@@ -22,16 +22,6 @@ use Rattle.order.proofs.NearestOnly.{nearest_only}
 use Rattle.order.proofs.Entries.{entry_of_none, entry_of_place}
 use Rattle.tables.specs.Inside.Claims.{least, greatest, Outside, NoneWithin, limit_at, Limits, Floor, Ceiling, NoneBetween, OwnEntries}
 use Rattle.tables.proofs.SampleSteps.{sample_least, sample_greatest, one_up, one_down, one_up_fits, one_down_fits}
-
--- ---- a scan
-
-pub outside_told : (x lo hi : ℤ) → SFits w32 x → (lt_z x lo || lt_z hi x) ≡ true → Outside lo hi x
-outside_told x lo hi f e =
-    record {
-      not_less = sample_least x f;
-      not_greater = sample_greatest x f;
-      beyond = λ a. must_fail (le_z x hi) (λ b. clash e (rw (lt_z_not_le_z x lo, lt_z_not_le_z hi x, a, b) refl));
-    }
 
 -- ---- one side
 

@@ -88,22 +88,22 @@ module _ (table : List ℕ) (own : ℕ → Spot) where
     there k h = ap (λ v. get_or v k 0) w ∙ over_at (λ k. entry (own k)) k 0 buffer h
 
     -- at an entry below m the two are compared
-    compared : m ≤ length mine → (k : ℕ) → k < m → differing (get_or (zip (take m table) mine) k (0, 0)) ≡ foreign_at table own k
+    compared : m ≤ length mine → (k : ℕ) → k < m → differing (get_or (zip (take m table) (take m mine)) k (0, 0)) ≡ foreign_at table own k
     unfolding foreign_at
     compared long k h =
         let inside : k < length (take m table) = omega (arith, length-take m table) in
-        let low : k < length mine = omega arith in
-        ap differing (get_or-zip (take m table) mine k (0, 0) inside low) ∙
-        ap₂ (λ (a b : ℕ). not (eqb a b)) (get_or-take m table k 0 h) (there k h)
+        let low : k < length (take m mine) = omega (arith, length-take m mine) in
+        ap differing (get_or-zip (take m table) (take m mine) k (0, 0) inside low) ∙
+        ap₂ (λ (a b : ℕ). not (eqb a b)) (get_or-take m table k 0 h) (get_or-take m mine k 0 h ∙ there k h)
 
-    found_foreign : m ≤ length mine → {r : Option ℕ} → r ≡ position differing (zip (take m table) mine) → lowest (foreign_at table own) m ≡ spot_of r
+    found_foreign : m ≤ length mine → {r : Option ℕ} → r ≡ position differing (zip (take m table) (take m mine)) → lowest (foreign_at table own) m ≡ spot_of r
     found_foreign long {r} e =
-        let size : length (zip (take m table) mine) ≡ m = omega (arith, length-zip (take m table) mine, length-take m table) in
+        let size : length (zip (take m table) (take m mine)) ≡ m = omega (arith, length-zip (take m table) (take m mine), length-take m table, length-take m mine) in
         finds_lowest (foreign_at table own) m (spot_of r)
         (finds_same (compared long) (spot_of r)
-        (subst (λ (o : Option ℕ). Finds (λ k. differing (get_or (zip (take m table) mine) k (0, 0))) m (spot_of o)) (sym e)
-        (subst (λ (n : ℕ). Finds (λ k. differing (get_or (zip (take m table) mine) k (0, 0))) n (spot_of (position differing (zip (take m table) mine)))) size
-        (position_finds differing (zip (take m table) mine)))))
+        (subst (λ (o : Option ℕ). Finds (λ k. differing (get_or (zip (take m table) (take m mine)) k (0, 0))) m (spot_of o)) (sym e)
+        (subst (λ (n : ℕ). Finds (λ k. differing (get_or (zip (take m table) (take m mine)) k (0, 0))) n (spot_of (position differing (zip (take m table) (take m mine))))) size
+        (position_finds differing (zip (take m table) (take m mine))))))
 
 -- ---- the halves
 
@@ -112,13 +112,13 @@ in_turn_row t a u b = then_row (refuse_at a (ForeignEntry t)) (refuse_at b (Fore
 
 module _ (P : List ℤ) (low high : List ℕ) where
   -- by the neighbours written over two buffers
-  pub against-neighbours : (l h : List ℕ) {low' high' : List ℕ} {a b : Option ℕ} {c : Result (Unit {0}) Refusal}
+  pub against-neighbours : (l h : List ℕ) {low' high' : List ℕ} {c : Result (Unit {0}) Refusal}
       → (low' ≡ over (low_table P) l) × (high' ≡ over (high_table P) h)
       → length P ≤ length low → length P ≤ length high → length P ≤ length low' → length P ≤ length high'
-      → a ≡ position differing (zip (take (length P) low) low') → b ≡ position differing (zip (take (length P) high) high')
-      → c ≡ answer_by (in_turn Low (spot_of a) High (spot_of b) accepted) tt → c ≡ answer_by (neighbours_half P low high accepted) tt
+      → c ≡ answer_by (in_turn Low (spot_of (position differing (zip (take (length P) low) (take (length P) low')))) High (spot_of (position differing (zip (take (length P) high) (take (length P) high')))) accepted) tt
+      → c ≡ answer_by (neighbours_half P low high accepted) tt
   unfolding low_table high_table neighbours_half
-  against-neighbours l h w x y x' y' p q e = e ∙ sym (rw (found_foreign low (low_of P) x l w.0 x' p, found_foreign high (high_of P) y h w.1 y' q) refl)
+  against-neighbours l h w x y x' y' e = e ∙ sym (rw (found_foreign low (low_of P) x l w.0 x' refl, found_foreign high (high_of P) y h w.1 y' refl) refl)
 
   -- neighbours that are the pattern's own are passed, and those that are passed are the pattern's own
   pub own_pass : OwnNeighbours P low high → done ≡ answer_by (neighbours_half P low high accepted) tt
@@ -144,13 +144,13 @@ module _ (P : List ℤ) (low high : List ℕ) where
 
 module _ (P : List ℤ) (wi wj : List ℕ) where
   -- by the witnesses written over two buffers
-  pub against-witnesses : (i j : List ℕ) {wi' wj' : List ℕ} {a b : Option ℕ} {c : Result (Unit {0}) Refusal}
+  pub against-witnesses : (i j : List ℕ) {wi' wj' : List ℕ} {c : Result (Unit {0}) Refusal}
       → (wi' ≡ over (witness_i_table P) i) × (wj' ≡ over (witness_j_table P) j)
       → length P ≤ length wi → length P ≤ length wj → length P ≤ length wi' → length P ≤ length wj'
-      → a ≡ position differing (zip (take (length P) wi) wi') → b ≡ position differing (zip (take (length P) wj) wj')
-      → c ≡ answer_by (in_turn WitnessI (spot_of a) WitnessJ (spot_of b) accepted) tt → c ≡ answer_by (witnesses_half P wi wj accepted) tt
+      → c ≡ answer_by (in_turn WitnessI (spot_of (position differing (zip (take (length P) wi) (take (length P) wi')))) WitnessJ (spot_of (position differing (zip (take (length P) wj) (take (length P) wj')))) accepted) tt
+      → c ≡ answer_by (witnesses_half P wi wj accepted) tt
   unfolding witness_i_table witness_j_table witnesses_half
-  against-witnesses i j w x y x' y' p q e = e ∙ sym (rw (found_foreign wi (witness_i_of P) x i w.0 x' p, found_foreign wj (witness_j_of P) y j w.1 y' q) refl)
+  against-witnesses i j w x y x' y' e = e ∙ sym (rw (found_foreign wi (witness_i_of P) x i w.0 x' refl, found_foreign wj (witness_j_of P) y j w.1 y' refl) refl)
 
 -- ---- the row of four
 

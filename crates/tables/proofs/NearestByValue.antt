@@ -2,29 +2,20 @@
 -- value is not found.
 -- Assumes nothing.
 use Prim.Native.Nat.{ℕ, ◌+◌, ◌-◌, ◌≤◌, ◌<◌}
-use mathlib.Core.Path.{◌≡◌, refl, ◌∙◌, ap, ap₂, subst}
-use mathlib.Core.List.{List, [], ◌∷◌}
-use mathlib.Core.Bool.{Bool, true, false, not}
+use mathlib.Core.Path.{◌≡◌, refl, ◌∙◌, ap₂, subst}
+use mathlib.Core.List.{List}
+use mathlib.Core.Bool.{Bool, true, false}
 use native.Mathlib.Omega.{arith}
 use native.Mathlib.Numerals.{add-one}
 use lib.Dec.{ltb}
 use lib.IntN.{ℤ}
-use lib.Signed.{le_z}
-use mir.Syntax.{w32}
-use mir.Val.{SFits, of_z}
-use borrow.Author.Tests.{ltb-true, ltb-false, eqb-true}
-use Rattle.std.specs.declared.cmp.Ordering.TheVariants.{Equal}
-use Rattle.order.specs.Relations.{alike}
+use borrow.Author.Tests.{ltb-true, ltb-false}
 use Rattle.order.specs.Sizes.{at, entry}
 use Rattle.order.specs.Neighbours.{low_of, high_of}
-use Rattle.order.proofs.Tests.{must_fail}
-use Rattle.order.proofs.Orders.{lt_z_not_le_z, rel_equal}
-use Rattle.order.proofs.Comparing.{equal_there_lem}
 use Rattle.order.proofs.Nearest.{upward, turned}
 use Rattle.tables.specs.Inside.Claims.{Outside, NoneWithin}
 use Rattle.tables.specs.Inside.NearValues.{on_side, later, nearest_value, NearestValues, LastEqual}
 use Rattle.tables.proofs.LastNearest.{le_z_antisym, last-nearest}
-use Rattle.tables.proofs.SampleSteps.{sample_least, sample_greatest}
 
 -- ---- the nearest value
 
@@ -47,18 +38,9 @@ pub high_found : {lo hi : ℤ} (P : List ℤ) (j : ℕ) {below above : ℤ} {r :
 unfolding high_of
 high_found {hi = hi} P j n l = last-nearest (turned upward) (λ a b s t. le_z_antisym a b t s) hi P j (λ i h. (n.within i h).not_greater) n.high_value l
 
--- ---- stretches that v is not in, and the machine's words for a sample that it is not
+-- ---- stretches that v is not in
 
-pub unequal_outside : (y v : ℤ) → SFits w32 y → SFits w32 v → (of_z w32 y ≡ of_z w32 v → ⊥) → Outside v v y
-unequal_outside y v f g e =
-    record {
-      not_less = sample_least y f;
-      not_greater = sample_greatest y f;
-      beyond = λ p. must_fail (le_z y v) (λ q. e (eqb-true (of_z w32 y) (of_z w32 v)
-          (equal_there_lem (y ∷ v ∷ []) 0 1 f g ∙ ap (λ r. alike r Equal) (rel_equal y v (lt_z_not_le_z y v ∙ ap not p) (lt_z_not_le_z v y ∙ ap not q)))));
-    }
-
-pub within_joined : {P : List ℤ} {from mid to : ℕ} {lo hi : ℤ} → NoneWithin P from mid lo hi → NoneWithin P mid to lo hi → NoneWithin P from to lo hi
+within_joined : {P : List ℤ} {from mid to : ℕ} {lo hi : ℤ} → NoneWithin P from mid lo hi → NoneWithin P mid to lo hi → NoneWithin P from to lo hi
 within_joined {P} {from} {mid} {to} {lo} {hi} a b = record { clear = λ i g h. go i g h (ltb i mid) refl }
   where
     go : (i : ℕ) → from ≤ i → i < to → (t : Bool) → ltb i mid ≡ t → Outside lo hi (at P i)

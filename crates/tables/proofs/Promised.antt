@@ -1,7 +1,7 @@
 -- Shows: the parts of each public call's promise follow from its answer and its buffers; and no second answer, nor other
 -- content of a buffer, satisfies a promise.
 -- Assumes nothing.
-use mathlib.Core.Path.{◌≡◌, refl, sym, ◌∙◌, ap}
+use mathlib.Core.Path.{◌≡◌, sym, ◌∙◌, ap}
 use mathlib.Core.List.{List}
 use Prim.Native.Nat.{ℕ}
 use lib.IntN.{ℤ}
@@ -11,11 +11,11 @@ use Rattle.order.specs.Neighbours.{low_table, high_table}
 use Rattle.order.specs.Witnesses.{witness_i_table, witness_j_table}
 use Rattle.order.specs.Refusals.{Verdict, accepted, refused, prepare_verdict, own_verdict, verdict_number, verdict_place}
 use Rattle.order.specs.declared.refusal.Refusal.{Refusal}
-use Rattle.order.specs.Written.{over, after_verdict}
+use Rattle.order.specs.Written.{after_verdict}
 use Rattle.order.specs.Answers.{answer_number, answer_place, answer_by}
 use Rattle.order.proofs.Answered.{done, unmet, numbered, placed, ok_accepted, err_refused}
 use Rattle.tables.specs.Inside.Asked.{TablesWritten}
-use Rattle.tables.specs.Promises.{PreparePromise, neighbours_alone, NeighboursMade, TablesPromise, own_tables_verdict}
+use Rattle.tables.specs.Promises.{PreparePromise, NeighboursMade, TablesPromise, own_tables_verdict}
 use Rattle.sizes.proofs.VerdictRows.{sizes_through, sizes_stay}
 
 -- ---- preparation
@@ -98,28 +98,6 @@ module _ (P : List ℤ) (low high wi wj : List ℕ) where
 -- ---- preparation of the neighbours alone
 
 module _ (P : List ℤ) (low high : List ℕ) where
-  abbrev alone : Verdict
-  alone = neighbours_alone (length P) (length low) (length high)
-
-  made_by : {v : Verdict} {r : Result (Unit {0}) Refusal} {low' high' : List ℕ} → alone ≡ v
-      → r ≡ answer_by v tt → answer_number r ≡ verdict_number v → answer_place r ≡ verdict_place v
-      → low' ≡ after_verdict v (low_table P) low → high' ≡ after_verdict v (high_table P) high → NeighboursMade P low high r low' high'
-  made_by v a n p l h =
-      record {
-        number = n ∙ ap verdict_number (sym v);
-        place = p ∙ ap verdict_place (sym v);
-        answer = a ∙ ap (λ w. answer_by w tt) (sym v);
-        low_after = l ∙ ap (λ w. after_verdict w (low_table P) low) (sym v);
-        high_after = h ∙ ap (λ w. after_verdict w (high_table P) high) (sym v);
-      }
-
-  pub alone_refused : (why : Refusal) → unmet why ≡ answer_by alone tt → NeighboursMade P low high (unmet why) low high
-  alone_refused why e = made_by (err_refused alone tt e) refl refl refl refl refl
-
-  pub alone_done : {low' high' : List ℕ} → done ≡ answer_by alone tt → low' ≡ over (low_table P) low → high' ≡ over (high_table P) high
-      → NeighboursMade P low high done low' high'
-  alone_done e l h = made_by (ok_accepted alone tt e).0 refl refl refl l h
-
   -- no second answer
   pub neighbours_made_only_answer : {r s : Result (Unit {0}) Refusal} {low₁ high₁ low₂ high₂ : List ℕ} → NeighboursMade P low high r low₁ high₁ → NeighboursMade P low high s low₂ high₂
       → (r ≡ s) × (low₁ ≡ low₂) × (high₁ ≡ high₂)

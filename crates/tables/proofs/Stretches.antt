@@ -99,10 +99,6 @@ module _ {P : List ℤ} {a start end : ℕ} (s : Stretched P a start end) (insid
 -- ---- the stretch that an offset's witness gives
 
 module _ {P : List ℤ} {a start end : ℕ} (s : Stretched P a start end) where
-  -- the stretch stays one at the next offset
-  pub stretch_kept : Stretched P (a + 1) start end
-  stretch_kept = record { later = s.later; reached = omega (arith, s.reached); within = s.within; in_order = s.in_order }
-
   pub stretch_to_end : (j : ℕ) → a < length P → length P ≤ pattern_limit → j ≡ entry (witness_j_of P a) → j ≡ no_place → Stretched P (a + 1) a (length P)
   unfolding witness_j_of
   stretch_to_end j h limit e n =

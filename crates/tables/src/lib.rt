@@ -6,10 +6,12 @@
 #![tactic(auto)]
 
 mod claimed;
+mod handed;
 mod neighbours;
 mod own_tables;
 mod preparation;
 mod sample;
+mod site;
 mod witnesses;
 
 pub use own_tables::check_tables;

@@ -6,16 +6,14 @@
 // m² / 2 steps by fours, 2 m tests for the witnesses and 2 m comparisons of entries, and 4 KB of stack. Foreign neighbours cost as much of
 // that look as it takes to see it, the neighbours written anew, 2 m comparisons of entries, and 4 KB; no witness is made for them.
 
-ghost use Rattle.std.specs.Prelude.{◌≡◌, ◌≤◌, length, position, zip};
-ghost use Rattle.order.specs.Sizes.{pattern_limit};
+ghost use Rattle.std.specs.Prelude.{◌≡◌, position, zip};
 ghost use Rattle.order.specs.Refusals.{accepted, own_verdict};
 ghost use Rattle.order.specs.Answers.{answer_by};
-ghost use Rattle.sizes.specs.Lengths.{Room};
 ghost use Rattle.tables.specs.Promises.{TablesPromise};
 ghost use Rattle.tables.specs.Inside.Asked.{OwnNeighbours};
 ghost use Rattle.tables.specs.Inside.Halves.{differing, spot_of, in_turn, neighbours_half, witnesses_half};
 
-use crate::claimed::neighbours_fit;
+use crate::handed::Handed;
 use crate::neighbours::write_neighbours;
 use crate::witnesses::write_witnesses;
 use order::{PATTERN_LIMIT, Refusal, Table};
@@ -27,33 +25,27 @@ fn first_difference(table: &[u16], own: &[u16]) -> Option<usize>
     table.iter().zip(own).position(|(a, b)| *a != *b)
 }
 
-// Of two tables the first that differs, at the lowest entry at which it does; each comes with that entry.
-fn first_foreign(
-    first: Table,
-    a: Option<usize>,
-    second: Table,
-    b: Option<usize>,
-) -> Result<(), Refusal>
-    ensures { result ≡ answer_by (in_turn first (spot_of a) second (spot_of b) accepted) tt }
-{
-    if let Some(k) = a {
-        return Err(Refusal::ForeignEntry(first, k));
-    }
-    if let Some(k) = b {
-        return Err(Refusal::ForeignEntry(second, k));
-    }
-    Ok(())
+// A table that was handed over, by its name, and what preparation writes in its place.
+#[derive(Clone, Copy)]
+struct Compared<'a> {
+    name: Table,
+    handed: &'a [u16],
+    own: &'a [u16],
 }
 
-// A pattern and the four tables that were handed over with it, each of which has room for the pattern's entries.
-#[derive(Clone, Copy)]
-struct Handed<'a> {
-    pattern: &'a [i32],
-    low: &'a [u16],
-    high: &'a [u16],
-    witness_i: &'a [u16],
-    witness_j: &'a [u16],
-    ghost room: { Room (length pattern.now) (length low.now) (length high.now) (length witness_i.now) (length witness_j.now) },
+// Of two tables the first that differs from the pattern's own, at the lowest entry at which it does.
+fn first_foreign(first: Compared, second: Compared) -> Result<(), Refusal>
+    ensures { result ≡ answer_by (in_turn first.entry.name (spot_of (position differing (zip first.entry.handed.now first.entry.own.now))) second.entry.name (spot_of (position differing (zip second.entry.handed.now second.entry.own.now))) accepted) tt }
+{
+    let a = first_difference(first.handed, first.own);
+    let b = first_difference(second.handed, second.own);
+    if let Some(k) = a {
+        return Err(Refusal::ForeignEntry(first.name, k));
+    }
+    if let Some(k) = b {
+        return Err(Refusal::ForeignEntry(second.name, k));
+    }
+    Ok(())
 }
 
 // 14 and 15, by the neighbours that preparation would write.
@@ -64,12 +56,21 @@ fn compare_neighbours(tables: Handed) -> Result<(), Refusal>
     let mut own_low = [0u16; PATTERN_LIMIT];
     let mut own_high = [0u16; PATTERN_LIMIT];
     write_neighbours(tables.pattern, &mut own_low, &mut own_high);
-    let a = first_difference(&tables.low[..m], &own_low);
-    let b = first_difference(&tables.high[..m], &own_high);
-    first_foreign(Table::Low, a, Table::High, b)
+    let low = Compared {
+        name: Table::Low,
+        handed: &tables.low[..m],
+        own: &own_low[..m],
+    };
+    let high = Compared {
+        name: Table::High,
+        handed: &tables.high[..m],
+        own: &own_high[..m],
+    };
+    first_foreign(low, high)
 }
 
-// 16 and 17, by the witnesses that the pattern's own neighbours make.
+// 16 and 17, by the witnesses that the pattern's own neighbours make. It stands beside `compare_neighbours`, since this writer asks for
+// neighbours that are the pattern's own: one function would take its writer as a closure, with what that asks in its own clauses.
 fn check_witnesses(tables: Handed) -> Result<(), Refusal>
     requires { OwnNeighbours tables.pattern.now tables.low.now tables.high.now }
     ensures { result ≡ answer_by (witnesses_half tables.entry.pattern.now tables.entry.witness_i.now tables.entry.witness_j.now accepted) tt }
@@ -84,9 +85,17 @@ fn check_witnesses(tables: Handed) -> Result<(), Refusal>
         &mut own_i,
         &mut own_j,
     );
-    let a = first_difference(&tables.witness_i[..m], &own_i);
-    let b = first_difference(&tables.witness_j[..m], &own_j);
-    first_foreign(Table::WitnessI, a, Table::WitnessJ, b)
+    let i = Compared {
+        name: Table::WitnessI,
+        handed: &tables.witness_i[..m],
+        own: &own_i[..m],
+    };
+    let j = Compared {
+        name: Table::WitnessJ,
+        handed: &tables.witness_j[..m],
+        own: &own_j[..m],
+    };
+    first_foreign(i, j)
 }
 
 // 14 to 17, table after table.
@@ -102,13 +111,14 @@ fn compare_tables(tables: Handed) -> Result<(), Refusal>
 fn check_own(tables: Handed) -> Result<(), Refusal>
     ensures { result ≡ answer_by (own_verdict tables.entry.pattern.now tables.entry.low.now tables.entry.high.now tables.entry.witness_i.now tables.entry.witness_j.now) tt }
 {
-    if neighbours_fit(tables.pattern, tables.low, tables.high) {
+    if tables.neighbours_fit() {
         return check_witnesses(tables);
     }
     compare_tables(tables)
 }
 
-// Whether a pattern and tables would do for a search: 1, 2, 21 and 3, and then 14 to 17.
+// Whether a pattern and tables would do for a search: 1, 2, 21 and 3, and then 14 to 17. The tables are four slices, as callers keep them;
+// `Handed` takes them up once their lengths are known to do.
 pub fn check_tables(
     pattern: &[i32],
     low: &[u16],

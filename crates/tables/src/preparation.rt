@@ -16,7 +16,8 @@ use crate::witnesses::write_witnesses;
 use order::{Refusal, Table};
 use sizes::for_pattern;
 
-// Writes the pattern's tables, each from entry 0 on.
+// Writes the pattern's tables, each from entry 0 on. They come one by one: a struct of four `&mut` tables would be built by `prepare` for
+// this one call, and taken apart at once for the two calls here, of which the first writes two tables that the second only reads.
 fn write_tables(
     pattern: &[i32],
     low: &mut [u16],
@@ -31,7 +32,8 @@ fn write_tables(
     write_witnesses(pattern, low, high, witness_i, witness_j);
 }
 
-// Prepares a pattern for searches: its tables are written, or it is refused and nothing is.
+// Prepares a pattern for searches: its tables are written, or it is refused and nothing is. Callers lend four slices: a struct of four
+// `&mut` tables would be built by each of them for this one call, since a search takes the same tables as `&`.
 pub fn prepare(
     pattern: &[i32],
     low: &mut [u16],
@@ -52,7 +54,8 @@ pub fn prepare(
     Ok(())
 }
 
-// 1 to 3 where neighbours alone are made: the number of samples, and the lengths of the two tables.
+// 1 to 3 where neighbours alone are made: the number of samples, and the lengths of the two tables. `sizes::short_tables` compares four
+// lengths of its own crate; a public function for these two would have this one caller.
 fn check_two(m: usize, low: usize, high: usize) -> Result<(), Refusal>
     ensures { result ≡ answer_by (neighbours_alone m low high) tt }
 {
@@ -67,7 +70,7 @@ fn check_two(m: usize, low: usize, high: usize) -> Result<(), Refusal>
 }
 
 // Writes the neighbour tables alone, of samples of any kind, or refuses and writes nothing: 1, 2, and 3 on these two tables. No sample is
-// taken for a lost stitch.
+// taken for a lost stitch. Two tables and no struct: the promise names each, and `prepare` has four.
 pub fn prepare_neighbours<T: Sample>(
     pattern: &[T],
     low: &mut [u16],

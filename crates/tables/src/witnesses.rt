@@ -14,6 +14,15 @@ ghost use Rattle.tables.specs.Inside.Asked.{OwnNeighbours, OwnWitness, OwnBelow,
 
 use order::{NONE, Offset, Place, Tested, test_place};
 
+// A pattern and its own neighbour tables.
+#[derive(Clone, Copy)]
+struct Own<'a> {
+    pattern: &'a [i32],
+    low: &'a [u16],
+    high: &'a [u16],
+    ghost neighbours: { OwnNeighbours pattern.now low.now high.now },
+}
+
 // The entries of one offset: the neighbour that failed and the place that failed first, or none twice.
 #[derive(Clone, Copy)]
 struct Witness {
@@ -22,16 +31,14 @@ struct Witness {
 }
 
 // The entries of an offset at which the tests below place `from` are known to pass.
-fn witness_from(pattern: &[i32], low: &[u16], high: &[u16], offset: Offset, from: Place) -> Witness
-    requires neighbours { OwnNeighbours pattern.now low.now high.now }
-    requires below { KnownBelow pattern.now offset.0 from.0 }
-    ensures { OwnWitness pattern.now offset.0 result.i result.j }
+fn witness_from(own: Own, offset: Offset, from: Place) -> Witness
+    requires { KnownBelow own.pattern.now offset.0 from.0 }
+    ensures { OwnWitness own.entry.pattern.now offset.0 result.i result.j }
 {
     let a = offset.0;
-    let rest = &pattern[a..];
-    let mut j = from.0;
-    while j < rest.len() {
-        match test_place(low[j], high[j], rest, Place(j)) {
+    let rest = &own.pattern[a..];
+    for j in from.0..rest.len() {
+        match test_place(own.low[j], own.high[j], rest, Place(j)) {
             Tested::Passed(_) => {}
             Tested::Failed(_, i) => {
                 return Witness {
@@ -40,7 +47,6 @@ fn witness_from(pattern: &[i32], low: &[u16], high: &[u16], offset: Offset, from
                 };
             }
         }
-        j += 1;
     }
     Witness { i: NONE, j: NONE }
 }
@@ -52,35 +58,33 @@ struct Stretch {
     end: usize,
 }
 
-// The entries of an offset. Inside the stretch the tests come out as they did that far from its start, up to its end.
+// The entries of an offset. Inside the stretch the tests come out as they did that far from its start, up to its end. The two witness tables
+// come side by side, as they are written: they are lent here between two stores.
 fn witness_at(
-    pattern: &[i32],
-    low: &[u16],
-    high: &[u16],
+    own: Own,
     witness_i: &[u16],
     witness_j: &[u16],
     offset: Offset,
     known: Stretch,
 ) -> Witness
-    requires neighbours { OwnNeighbours pattern.now low.now high.now }
-    requires earlier { OwnBelow pattern.now witness_i.now witness_j.now offset.0 }
-    requires stretch { Stretched pattern.now offset.0 known.start known.end }
-    ensures { OwnWitness pattern.now offset.0 result.i result.j }
+    requires earlier { OwnBelow own.pattern.now witness_i.now witness_j.now offset.0 }
+    requires stretch { Stretched own.pattern.now offset.0 known.start known.end }
+    ensures { OwnWitness own.entry.pattern.now offset.0 result.i result.j }
 {
     let a = offset.0;
     let start = known.start;
     let end = known.end;
     if end <= a {
-        return witness_from(pattern, low, high, offset, Place(0));
+        return witness_from(own, offset, Place(0));
     }
     let from_start = a - start;
     let inside = end - a;
     let i = witness_i[from_start];
     let j = witness_j[from_start];
-    if (j as usize) < inside {
+    if usize::from(j) < inside {
         return Witness { i, j };
     }
-    witness_from(pattern, low, high, offset, Place(inside))
+    witness_from(own, offset, Place(inside))
 }
 
 // The stretch that reaches further: the one known before, or the one from an offset up to its first failing place.
@@ -96,7 +100,7 @@ fn further(pattern: &[i32], offset: Offset, failing: u16, known: Stretch) -> Str
             end: pattern.len(),
         };
     }
-    let reach = a + failing as usize;
+    let reach = a + usize::from(failing);
     let end = known.end;
     if end < reach {
         return Stretch {
@@ -107,7 +111,8 @@ fn further(pattern: &[i32], offset: Offset, failing: u16, known: Stretch) -> Str
     known
 }
 
-// Writes the witnesses of all offsets.
+// Writes the witnesses of all offsets. The loop counts: each turn reads both tables below the entries that it writes, so none can lend its
+// entries out one by one.
 pub(crate) fn write_witnesses(
     pattern: &[i32],
     low: &[u16],
@@ -122,8 +127,9 @@ pub(crate) fn write_witnesses(
     let mut known = Stretch { start: 1, end: 1 };
     witness_i[0] = NONE;
     witness_j[0] = NONE;
+    let own = Own { pattern, low, high };
     for a in 1..pattern.len() {
-        let w = witness_at(pattern, low, high, witness_i, witness_j, Offset(a), known);
+        let w = witness_at(own, witness_i, witness_j, Offset(a), known);
         witness_i[a] = w.i;
         witness_j[a] = w.j;
         known = further(pattern, Offset(a), w.j, known);

@@ -1,8 +1,9 @@
 // The entry points for a C host: preparation and search on little-endian bytes, reading and writing of recordings, and the search of a
 // camera's frame, exported under C's names.
 //
-// Follows docs/RULES.md, "The C entry points". Each is one call of the crate `host_calls`, `host_recordings` or `host_frames`, which says what
-// it costs.
+// Follows docs/RULES.md, "The C entry points". Each is one call of the crate `host_calls`, `host_recordings` or `host_frames`, which says
+// what it costs. The parameters are those that host/tension.h declares, each buffer a pointer with its length, so no struct stands for
+// several.
 
 #![tactic(auto)]
 
@@ -45,8 +46,7 @@ pub extern "C" fn tension_search(
     )
 }
 
-// The search in the large arrays, whatever the trace's length. With it the large search has two callers, and stays out of line:
-// made part of `tension_search` its arrays would be in the frame of small calls too.
+// The search in the large arrays, whatever the trace's length. A host has no need of it, and its name stays exported.
 #[unsafe(no_mangle)]
 pub extern "C" fn tension_search_large(
     pattern: &[u8],
@@ -92,8 +92,8 @@ pub extern "C" fn tension_write(
     host_recordings::write(buffer, k, samples, length)
 }
 
-// Seeks a patch of h rows and k columns, packed, in a frame whose rows start a pitch apart: the places that match are listed, and their number
-// and how many were found are stored, or nothing is.
+// Seeks a patch of h rows and k columns, packed, in a frame whose rows start a pitch apart: the places that match are listed, and their
+// number and how many were found are stored, or nothing is.
 #[unsafe(no_mangle)]
 pub extern "C" fn tension_frame(
     samples: &[u16],

@@ -23,10 +23,9 @@ own_code_lem P a i j = code (rel (at P (a + i)) (at P (a + j)))
 abbrev pub start_code : List ℤ → ℕ → ℕ → ℕ
 start_code P i j = code (rel (at P i) (at P j))
 
--- the two codes of an offset whose entries are (i, j), where these tell a witness; where the first is none they are not looked at
-pub data CodesOf (P : List ℤ) (a i j : ℕ) (c : Codes) : Type 0 where
-  empty : i ≡ no_place → CodesOf P a i j c
-  told : tells_witness P a i j ≡ true → c.older ≡ own_code_lem P a i j → c.newer ≡ start_code P i j → CodesOf P a i j c
+-- the two codes of an offset whose entries are (i, j), which tell a witness; where the first is none they are not looked at
+pub record CodesOf (P : List ℤ) (a i j : ℕ) (c : Codes) : Type 0 where
+  pub told : (i ≡ no_place → ⊥) → (tells_witness P a i j ≡ true) × (c.older ≡ own_code_lem P a i j) × (c.newer ≡ start_code P i j)
 
 -- what stands where nothing was written
 abbrev pub unseen : Codes

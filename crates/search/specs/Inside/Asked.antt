@@ -1,15 +1,13 @@
 -- What the functions inside this crate ask of their callers and tell them, part by part.
-use Rattle.std.specs.Prelude.{ℕ, ◌+◌, ◌≤◌, ◌<◌, ◌≡◌, List, ℤ, length, get_or, take}
+use Rattle.std.specs.Prelude.{ℕ, ◌≤◌, ◌<◌, ◌≡◌, List, ℤ, length, get_or, take}
 use Rattle.order.specs.Sizes.{entry, pattern_limit, trace_limit, windows_of}
 use Rattle.order.specs.Witnesses.{witness_i_of, witness_j_of}
 use Rattle.order.specs.Written.{over, counts_of, filled}
-use Rattle.std.specs.declared.cmp.Ordering.{Ordering}
 use Rattle.order.specs.Duels.{struck, duels, survivors}
 use Rattle.order.specs.Sweeping.{positions}
 use Rattle.order.specs.declared.steps.Counts.{Counts}
 use Rattle.tables.specs.Inside.Asked.{OwnNeighbours}
 use Rattle.duels.specs.declared.answers.Duelled.{Duelled}
-use Rattle.search.specs.Inside.Courses.{Steady}
 
 -- the witness tables are the pattern's own below its length
 pub record OwnWitnesses (P : List ℤ) (wi wj : List ℕ) : Type 0 where
@@ -19,20 +17,6 @@ pub record OwnWitnesses (P : List ℤ) (wi wj : List ℕ) : Type 0 where
   pub i_own : (a : ℕ) → a < length P → get_or wi a 0 ≡ entry (witness_i_of P a)
   pub j_own : (a : ℕ) → a < length P → get_or wj a 0 ≡ entry (witness_j_of P a)
 
--- the first witness table alone
-pub record OwnFirst (P : List ℤ) (wi : List ℕ) : Type 0 where
-  pub some : 0 < length P
-  pub limit : length P ≤ pattern_limit
-  pub long : length P ≤ length wi
-  pub own : (a : ℕ) → a < length P → get_or wi a 0 ≡ entry (witness_i_of P a)
-
--- the duels by the pattern's own tables, and a buffer with room for every window
-pub record Dueling (P : List ℤ) (wi wj : List ℕ) (T : List ℤ) (before : List ℕ) : Type 0 where
-  pub some : 0 < length P
-  pub own : OwnWitnesses P wi wj
-  pub trace : length T ≤ trace_limit
-  pub room : windows_of (length P) (length T) ≤ length before
-
 -- what the duels leave: the survivors, with "unused" behind them
 pub record SurvivorsOf (P T : List ℤ) (before after : List ℕ) (d : Duelled) : Type 0 where
   pub number : d.kept ≡ length (survivors P T)
@@ -40,46 +24,19 @@ pub record SurvivorsOf (P T : List ℤ) (before after : List ℕ) (d : Duelled) 
   pub struck_is : d.struck ≡ struck P T
   pub written : after ≡ over (filled (survivors P T) (windows_of (length P) (length T))) before
 
--- what a sweep may spend: 2(n + S) at the longest trace
-abbrev pub spent_limit : ℕ
-spent_limit = 262144
-
--- survivor x of a steady pattern, from a sample of it on, with so much spent before
-pub record Steadily (P T : List ℤ) (way : Ordering) (x from before : ℕ) : Type 0 where
-  pub steady : Steady P way
-  pub trace : length T ≤ trace_limit
-  pub inside : x + length P ≤ length T
-  pub begun : x ≤ from
-  pub reached : from ≤ length T
-  pub small : before ≤ spent_limit
-
 -- the survivors, in the first entries of their buffer
 pub record Kept (P T : List ℤ) (buffer : List ℕ) (kept : ℕ) : Type 0 where
   pub trace : length T ≤ trace_limit
   pub held : take kept buffer ≡ survivors P T
   pub kept_long : kept ≤ length buffer
 
--- a sweep of them by the pattern's own tables, into a buffer with room for all
-pub record Sweeps (P : List ℤ) (low high : List ℕ) (T : List ℤ) (buffer : List ℕ) (kept : ℕ) (before : List ℕ) : Type 0 where
-  pub own : OwnNeighbours P low high
-  pub rows : Kept P T buffer kept
-  pub room : kept ≤ length before
-
--- a sweep of them for a steady pattern
-pub record SteadySweep (P T : List ℤ) (way : Ordering) (buffer : List ℕ) (kept : ℕ) (before : List ℕ) : Type 0 where
-  pub steady : Steady P way
-  pub rows : Kept P T buffer kept
-  pub room : kept ≤ length before
-
--- everything that a search checks before it stores
-pub record Searchable (P : List ℤ) (low high wi wj : List ℕ) (T : List ℤ) (windows kept_long listed-long : ℕ) : Type 0 where
+-- everything that a search checks before it stores, but for the room in its buffers
+pub record Searchable (P : List ℤ) (low high wi wj : List ℕ) (T : List ℤ) (windows : ℕ) : Type 0 where
   pub some : 0 < length P
   pub number : windows ≡ windows_of (length P) (length T)
   pub neighbours : OwnNeighbours P low high
   pub witnesses : OwnWitnesses P wi wj
   pub trace : length T ≤ trace_limit
-  pub survivors_room : windows_of (length P) (length T) ≤ kept_long
-  pub positions_room : windows_of (length P) (length T) ≤ listed-long
 
 -- what a search leaves
 pub record SearchedOf (P T : List ℤ) (kept listed kept' listed' : List ℕ) (c : Counts) : Type 0 where

@@ -1,5 +1,5 @@
 -- What the sweep leaves, of one survivor and of all.
-use Rattle.std.specs.Prelude.{ℕ, ◌+◌, ◌*◌, ◌≤◌, ◌<◌, ◌≡◌, List, Bool, ◌⊎◌, ℤ, length, take, drop}
+use Rattle.std.specs.Prelude.{ℕ, ◌+◌, ◌*◌, ◌≤◌, ◌<◌, ◌≡◌, List, Bool, ◌⊎◌, ℤ, length, get_or, take, drop}
 use Rattle.order.specs.Duels.{survivors}
 use Rattle.order.specs.Sweeping.{tests_of, sweep_cost, positions}
 use Rattle.sweep.specs.Inside.{SweptOne as WindowSwept, SweptTo as WindowsSwept}
@@ -14,8 +14,10 @@ pub record Climbed (P T : List ℤ) (x from before reach spent : ℕ) (whole : B
   pub swept_one : SweptOne P T x from before reach spent whole
   pub cheap : spent + from ≤ before + reach + 1
 
--- the first k survivors have been swept
+-- the first k survivors have been swept, into a list with room for all, and not past the end of the next
 pub record SweptTo (P T : List ℤ) (kept : ℕ) (before after : List ℕ) (k reach spent found : ℕ) : Type 0 where
+  pub room : kept ≤ length before
+  pub ahead : k < kept → reach ≤ get_or (survivors P T) k 0 + length P
   pub so_far : WindowsSwept (tests_of P T) (length P) (length T) (survivors P T) (drop k (survivors P T)) kept before after k reach spent found
 
 -- a turn of the sweep for a steady pattern has gone from survivor k to survivor k', with `wasted` comparisons of a look that failed: no

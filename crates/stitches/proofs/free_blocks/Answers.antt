@@ -1,22 +1,23 @@
 -- The goals of `free_blocks` that the check leaves.
-use Prim.Native.Nat.{◌+◌}
-use mathlib.Core.Path.{sym, ◌∙◌}
+use Prim.Native.Nat.{◌+◌, ◌-◌, ◌%◌}
+use mathlib.Core.Path.{◌≡◌, sym, ◌∙◌, subst}
 use native.Mathlib.Omega.{arith}
-use Rattle.stitches.proofs.Looks.{free_none, free_then, free_part}
+use lib.ListN.{length}
+use Rattle.stitches.specs.Inside.{FreeWithin}
+use Rattle.stitches.proofs.Looks.{free_part_more}
 use Rattle.stitches.proofs.free_blocks.Goals as goal
-
-pub loop-i-init : goal.loop-i-init
-loop-i-init c = (free_none _ 0, omega arith)
-
-pub returns-then-holds_lost : goal.returns-then-holds_lost
-returns-then-holds_lost c = c.loop-i.invariant
 
 pub loop-i-preserved : goal.loop-i-preserved
 loop-i-preserved c =
-    let l = c.loop-i in
     let h = c.loop-i-test.true in
-    let w = l.invariant.1 in
-    (free_then l.invariant.0 (free_part c.args.samples.now l.i (l.i + 64) (omega arith) (omega arith) (sym c.if-holds_lost.false ∙ c.holds_lost.ensures)), omega arith)
+    let v = c.loop-i.invariant in
+    let e = v.2 in
+    (free_part_more v.0 (omega arith) (omega arith) (sym c.if-holds_lost.false ∙ c.holds_lost.ensures), omega arith, omega arith)
 
-pub returns : goal.returns
-returns c = c.loop-i.invariant
+pub returns-else-holds_lost : goal.returns-else-holds_lost
+returns-else-holds_lost c =
+    let h = c.loop-i-test.true in
+    let v = c.loop-i.invariant in
+    let e = v.2 in
+    let all : c.loop-i.i + 64 ≡ length c.args.samples.now - length c.args.samples.now % 64 = omega arith in
+    (subst (FreeWithin _ 0) all (free_part_more v.0 (omega arith) (omega arith) (sym c.if-holds_lost.false ∙ c.holds_lost.ensures)), omega arith)

@@ -24,9 +24,8 @@ returns-then-room-max c =
 
 -- what the two comparisons tell, of places inside
 told : (c : After-code_between-newer) →
-    let a = c.args in
-    (a.a.0 + a.i < length a.pattern.now) × (a.a.0 + a.j < length a.pattern.now) ×
-    (c.code_between-older.result ≡ own_code_lem a.pattern.now a.a.0 a.i a.j) × (c.code_between-newer.result ≡ start_code a.pattern.now a.i a.j)
+    (c.args.a.0 + c.args.i < length c.args.pattern.now) × (c.args.a.0 + c.args.j < length c.args.pattern.now) ×
+    (c.code_between-older.result ≡ own_code_lem c.args.pattern.now c.args.a.0 c.args.i c.args.j) × (c.code_between-newer.result ≡ start_code c.args.pattern.now c.args.i c.args.j)
 told c =
     let m = c.max.ensures in
     let h = c.if-room-max.false in

@@ -6,17 +6,14 @@ use Rattle.duels.proofs.runs.lost_from.Goals as goal
 
 pub overflow_add-result : goal.overflow_add-result
 overflow_add-result c =
-    let s = c in
-    let w = (some-from s.args.trace.now s.args.from s.requires.1 c.first_lost.ensures).within in
-    let t = s.requires.2 in
+    let w = (some-from c.args.trace.now c.args.from c.requires.1 c.first_lost.ensures).within in
+    let t = c.requires.2 in
     omega arith
 
 pub returns-then-lost : goal.returns-then-lost
 returns-then-lost c =
-    let s = c in
-    some-from s.args.trace.now s.args.from s.requires.1 c.first_lost.ensures
+    some-from c.args.trace.now c.args.from c.requires.1 c.first_lost.ensures
 
 pub returns : goal.returns
 returns c =
-    let s = c in
-    none_from s.args.trace.now s.args.from s.requires.1 (sym c.if-lost.false ∙ s.requires.0)
+    none_from c.args.trace.now c.args.from c.requires.1 (sym c.if-lost.false ∙ c.requires.0)

@@ -3,22 +3,11 @@ use mathlib.Core.Path.{ap}
 use native.Mathlib.Omega.{arith}
 use Rattle.order.proofs.Filling.{filled_none, filled_more}
 use Rattle.frames.specs.Inside.{lone, offsets_of}
-use Rattle.frames.proofs.OffsetLaws.{first_corner, turn-fits, corner_turned, offset_there, next_corner, offset_fits, laid_whole}
+use Rattle.frames.proofs.OffsetLaws.{first_corner, corner_turned, offset_there, next_corner, laid_whole}
 use Rattle.frames.proofs.patches.lay_offsets.Goals as goal
 
 pub loop-step-init : goal.loop-step-init
 loop-step-init c = (omega arith, filled_none _ _, first_corner _ _)
-
-pub turned-corner-requires : goal.turned-corner-requires
-turned-corner-requires c = λ e. turn-fits c.requires c.loop-step.invariant.2 c.loop-step-test.true e
-
-pub overflow_add-step : goal.overflow_add-step
-overflow_add-step c =
-    let t = corner_turned c.requires.some c.loop-step.invariant.2 c.turned-corner.ensures in let f = offset_fits c.requires t c.loop-step-test.true in record { fits = omega arith }
-
-pub overflow_add-column : goal.overflow_add-column
-overflow_add-column c =
-    let t = corner_turned c.requires.some c.loop-step.invariant.2 c.turned-corner.ensures in let f = offset_fits c.requires t c.loop-step-test.true in record { fits = omega arith }
 
 pub loop-step-preserved : goal.loop-step-preserved
 loop-step-preserved c =

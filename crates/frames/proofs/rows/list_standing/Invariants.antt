@@ -7,7 +7,7 @@ use Rattle.frames.specs.Inside.{Listed}
 use Rattle.frames.proofs.rows.list_standing.Given as goal
 
 abbrev pub invariant-loop-i : goal.invariant-loop-i
-invariant-loop-i l = (l.i ≤ length l.mask) × (length l.positions ≡ length l.initial.positions) × Listed (λ i. get_or l.mask i false) l.base l.i l.found l.initial.positions l.n l.positions
+invariant-loop-i l = (l.i ≤ length l.mask) × (length l.free ≡ length l.initial.free) × Listed (λ i. get_or l.mask i false) l.base l.i 0 l.initial.free l.n l.free
 
 abbrev pub decreases-loop-i : goal.decreases-loop-i
 decreases-loop-i l = length l.mask - l.i

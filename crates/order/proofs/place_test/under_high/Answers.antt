@@ -6,14 +6,14 @@ use Rattle.order.proofs.EntrySteps.{no_high, high_told}
 use Rattle.order.proofs.place_test.under_high.Goals as goal
 
 pub returns-then-v-above : goal.returns-then-v-above
-returns-then-v-above c = no_high _ _ _ _ c.if-v-above.true
+returns-then-v-above c = rw (← c.from-above.ensures) (no_high _ _ _ _ c.if-v-above.true)
 
 pub returns-then-v-j : goal.returns-then-v-j
 returns-then-v-j c =
-    let a = c.args in
-    high_told _ _ _ _ {t = true} c.if-v-above.false (less_there_lem a.v.now a.j a.high (search rules) (search rules)) c.if-v-j.true
+    rw (← c.from-above.ensures)
+    (high_told _ _ _ _ {t = true} c.if-v-above.false (less_there_lem c.args.v.now c.args.j c.from-above.result (search rules) (search rules)) c.if-v-j.true)
 
 pub returns : goal.returns
 returns c =
-    let a = c.args in
-    high_told _ _ _ _ {t = false} c.if-v-above.false (less_there_lem a.v.now a.j a.high (search rules) (search rules)) c.if-v-j.false
+    rw (← c.from-above.ensures)
+    (high_told _ _ _ _ {t = false} c.if-v-above.false (less_there_lem c.args.v.now c.args.j c.from-above.result (search rules) (search rules)) c.if-v-j.false)

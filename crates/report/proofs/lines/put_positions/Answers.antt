@@ -1,11 +1,11 @@
--- The goals of `put_positions` that the check leaves.
-use Rattle.report.proofs.Printing.{lines-begun, lines_on}
-use borrow.Author.Rules.{rules}
+-- The goal of `put_positions` that the check leaves.
+use native.Mathlib.Omega.{arith}
+use Rattle.report.proofs.Printing.{line_put}
 use Rattle.report.proofs.lines.put_positions.Goals as goal
-
-pub loop-position-init : goal.loop-position-init
-loop-position-init c = lines-begun _ c.args.positions.now _ (search rules)
 
 pub loop-position-preserved : goal.loop-position-preserved
 loop-position-preserved c =
-    lines_on _ c.loop-position.position-index c.loop-position-test.true c.loop-position.invariant c.put_line-end.ensures
+    let l = c.loop-position in (
+      line_put c.args.text.now _ l.position-index c.loop-position-test.true l.invariant.0 c.put_line.ensures.after,
+      omega (arith, c.put_line.ensures.few, l.invariant.1),
+    )

@@ -8,15 +8,12 @@ use Rattle.search.proofs.steady.goes.Goals as goal
 
 pub returns-in-Less : goal.returns-in-Less
 returns-in-Less c =
-    let a = c.args in
-    ap₂ lt_z (to_z-of_z c.ranges.a) (to_z-of_z c.ranges.b) ∙ less_told a.a a.b ∙ ap (alike (rel a.a a.b)) (sym c.in-Less.is)
+    ap₂ lt_z (to_z-of_z c.ranges.a) (to_z-of_z c.ranges.b) ∙ less_told c.args.a c.args.b ∙ ap (alike (rel c.args.a c.args.b)) (sym c.in-Less.is)
 
 pub returns-in-Equal : goal.returns-in-Equal
 returns-in-Equal c =
-    let a = c.args in
-    equal_told a.a a.b c.ranges.a c.ranges.b ∙ ap (alike (rel a.a a.b)) (sym c.in-Equal.is)
+    equal_told c.args.a c.args.b c.ranges.a c.ranges.b ∙ ap (alike (rel c.args.a c.args.b)) (sym c.in-Equal.is)
 
 pub returns-in-Greater : goal.returns-in-Greater
 returns-in-Greater c =
-    let a = c.args in
-    ap₂ lt_z (to_z-of_z c.ranges.b) (to_z-of_z c.ranges.a) ∙ greater_told a.a a.b ∙ ap (alike (rel a.a a.b)) (sym c.in-Greater.is)
+    ap₂ lt_z (to_z-of_z c.ranges.b) (to_z-of_z c.ranges.a) ∙ greater_told c.args.a c.args.b ∙ ap (alike (rel c.args.a c.args.b)) (sym c.in-Greater.is)

@@ -3,19 +3,16 @@ use Rattle.sizes.proofs.VerdictRows.{room-long, room-survivors, room-positions, 
 use Rattle.sizes.proofs.search_sizes.for_room.Goals as goal
 
 pub returns-then-n-gt-TRACE_LIMIT : goal.returns-then-n-gt-TRACE_LIMIT
-returns-then-n-gt-TRACE_LIMIT c = let a = c.args in room-long a.m a.n a.survivors a.positions c.if-n-gt-TRACE_LIMIT.true
+returns-then-n-gt-TRACE_LIMIT c = room-long _ _ _ _ c.if-n-gt-TRACE_LIMIT.true
 
 pub returns-then-survivors-windows : goal.returns-then-survivors-windows
 returns-then-survivors-windows c =
-    let a = c.args in
-    room-survivors a.m a.n a.survivors a.positions c.if-n-gt-TRACE_LIMIT.false c.count_windows-windows.ensures c.if-survivors-windows.true
+    room-survivors _ _ _ _ c.if-n-gt-TRACE_LIMIT.false c.count_windows-windows.ensures c.if-survivors-windows.true
 
 pub returns-then-positions-windows : goal.returns-then-positions-windows
 returns-then-positions-windows c =
-    let a = c.args in
-    room-positions a.m a.n a.survivors a.positions c.if-n-gt-TRACE_LIMIT.false c.count_windows-windows.ensures c.if-survivors-windows.false c.if-positions-windows.true
+    room-positions _ _ _ _ c.if-n-gt-TRACE_LIMIT.false c.count_windows-windows.ensures c.if-survivors-windows.false c.if-positions-windows.true
 
 pub returns : goal.returns
 returns c =
-    let a = c.args in
-    room_fine a.m a.n a.survivors a.positions c.if-n-gt-TRACE_LIMIT.false c.count_windows-windows.ensures c.if-survivors-windows.false c.if-positions-windows.false
+    room_fine _ _ _ _ c.if-n-gt-TRACE_LIMIT.false c.count_windows-windows.ensures c.if-survivors-windows.false c.if-positions-windows.false

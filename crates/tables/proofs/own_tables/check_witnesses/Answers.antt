@@ -8,4 +8,4 @@ returns c =
     let a = c.args.tables in
     let r = a.room in
     against-witnesses a.pattern.now a.witness_i.now a.witness_j.now _ _ c.write_witnesses.ensures (omega arith) (omega arith) (omega arith) (omega arith)
-    c.first_difference-a.ensures c.first_difference-b.ensures c.first_foreign.ensures
+    c.first_foreign.ensures

@@ -9,4 +9,4 @@ returns c =
     let a = c.args.tables in
     let r = a.room in
     against-neighbours a.pattern.now a.low.now a.high.now _ _ (rw map-id at c.write_neighbours.ensures) r.low_room r.high_room (omega arith) (omega arith)
-    c.first_difference-a.ensures c.first_difference-b.ensures c.first_foreign.ensures
+    c.first_foreign.ensures

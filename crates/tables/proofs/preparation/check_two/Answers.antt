@@ -24,6 +24,5 @@ returns-then-high-m c =
 pub returns : goal.returns
 unfolding tables_verdict witnesses_verdict
 returns c =
-    let m = c.args.m in
     rw (pattern_through _ c.in_ok-for_pattern.ensures)
-    (simp (le-ltb _ _ c.if-low-m.false, le-ltb _ _ c.if-high-m.false, le-ltb m m (omega arith)))
+    (simp (le-ltb _ _ c.if-low-m.false, le-ltb _ _ c.if-high-m.false, le-ltb c.args.m c.args.m (omega arith)))

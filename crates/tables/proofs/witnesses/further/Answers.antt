@@ -9,4 +9,4 @@ returns-then-failing-eq-NONE c =
     stretch_to_end c.requires.stretch _ p.0 p.1 p.2 c.if-failing-eq-NONE.true
 
 pub returns-then-end-reach : goal.returns-then-end-reach
-returns-then-end-reach c = stretch_to_failing c.requires.stretch _ c.requires.inside.2 c.if-failing-eq-NONE.false
+returns-then-end-reach c = rw c.from.ensures (stretch_to_failing c.requires.stretch _ c.requires.inside.2 c.if-failing-eq-NONE.false)

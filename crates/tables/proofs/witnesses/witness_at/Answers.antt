@@ -5,20 +5,17 @@ use Rattle.tables.proofs.Offsets.{known_none}
 use Rattle.tables.proofs.Stretches.{earlier, settled, unsettled}
 use Rattle.tables.proofs.witnesses.witness_at.Goals as goal
 
-pub witness_from-requires-clause-below : goal.witness_from-requires-clause-below
-witness_from-requires-clause-below c =
-    let p = c.requires in
-    known_none _ _ (omega (arith, p.earlier.inside))
+pub witness_from-requires : goal.witness_from-requires
+witness_from-requires c =
+    known_none _ _ (omega (arith, c.requires.earlier.inside))
 
-pub returns-then-j-inside : goal.returns-then-j-inside
-returns-then-j-inside c =
-    let p = c.requires in
-    settled p.stretch c.if-end-a.false _ _ p.neighbours.limit
-    (p.earlier.witness_i_own _ (earlier p.stretch))
-    (p.earlier.witness_j_own _ (earlier p.stretch))
-    c.if-j-inside.true
+pub returns-then-from-inside : goal.returns-then-from-inside
+returns-then-from-inside c =
+    settled c.requires.stretch c.if-end-a.false _ _ c.args.own.neighbours.limit
+    (c.requires.earlier.witness_i_own _ (earlier c.requires.stretch))
+    (c.requires.earlier.witness_j_own _ (earlier c.requires.stretch))
+    (rw c.from.ensures at c.if-from-inside.true)
 
-pub witness_from-requires-2-clause-below : goal.witness_from-requires-2-clause-below
-witness_from-requires-2-clause-below c =
-    let p = c.requires in
-    unsettled p.stretch c.if-end-a.false _ (p.earlier.witness_j_own _ (earlier p.stretch)) c.if-j-inside.false
+pub witness_from-requires-2 : goal.witness_from-requires-2
+witness_from-requires-2 c =
+    unsettled c.requires.stretch c.if-end-a.false _ (c.requires.earlier.witness_j_own _ (earlier c.requires.stretch)) (rw c.from.ensures at c.if-from-inside.false)

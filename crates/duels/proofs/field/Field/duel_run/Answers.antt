@@ -7,7 +7,7 @@ use lib.ListN.{length}
 use Rattle.order.proofs.Lists.{windows_few, window-inside}
 use Rattle.duels.specs.DuelPromise.{meets_by}
 use Rattle.duels.specs.Inside.Stacks.{enters}
-use Rattle.duels.proofs.StackLaws.{Settled, run_begun, run_dropped, run_pushed, run_ended, looking, kept-below, few_arrived, settle_empty, settle_agree, settle_newer, settle_both, look_again, settled_as}
+use Rattle.duels.proofs.StackLaws.{Settled, run_dropped, run_pushed, kept-below, few_arrived, settle_empty, settle_agree, settle_newer, settle_both, look_again, settled_as}
 use Rattle.duels.proofs.field.Field.duel_run.Goals as goal
 use Rattle.duels.proofs.field.Field.duel_run.Goals.{then-kept-eq0, else-kept-eq0+in-Agree, else-kept-eq0+in-NewerFalls, else-kept-eq0+in-BothFall, At-windows, In-windows, Joined-kept-eq0, Start}
 
@@ -16,6 +16,13 @@ few-windows : (c : Start) → c.args.past ≤ 65537
 few-windows c =
     let w = windows_few (length c.args.self.pattern.now) (length c.args.self.trace.now) _ refl c.args.self.short in
     let i = c.requires.2.inside in
+    omega arith
+
+-- and the run's are among them
+among : (c : Start) → c.args.past ≤ c.args.self.windows
+among c =
+    let i = c.requires.2.inside in
+    let e = c.args.self.all in
     omega arith
 
 -- of those that have arrived, some are kept
@@ -29,13 +36,6 @@ few-kept c =
     let h = c.requires.2.inside in
     ((omega arith), (omega arith), (omega arith))
 
-pub windows-init : goal.windows-init
-windows-init c =
-    run_begun _ _ c.requires.2.within c.requires.3
-
-pub loop-kept-init : goal.loop-kept-init
-loop-kept-init c = (looking c.windows.invariant.standing, refl)
-
 pub offset_bounds-survivors-kept : goal.offset_bounds-survivors-kept
 offset_bounds-survivors-kept c =
     let f = c.loop-kept.invariant.0.fewer in
@@ -47,7 +47,7 @@ bounds-survivors-kept c =
     let f = c.loop-kept.invariant.0.fewer in
     let k = few-kept (goal.at.bounds-survivors-kept c).At-windows in
     let t = c.windows-test.true in
-    let i = c.requires.2.inside in
+    let i = among (goal.at.bounds-survivors-kept c).Start in
     let r = c.requires.0 in
     let g = c.windows.invariant.behind.same_length in
     omega (arith, k.0)
@@ -78,8 +78,7 @@ overflow_add-both c =
 
 -- where the breaks meet, the arrival has settled
 settled : (c : Joined-kept-eq0) →
-    let a = c.args in
-    Settled (meets_by a.self.pattern.now a.self.witness_i.now a.self.witness_j.now a.self.trace.now) c.windows.survivors c.windows.y (a.before.windows + (c.windows.y - a.from)) c.windows.kept c.windows.both
+    Settled (meets_by c.args.self.pattern.now c.args.self.witness_i.now c.args.self.witness_j.now c.args.self.trace.now) c.windows.survivors c.windows.y (c.args.before.windows + (c.windows.y - c.args.from)) c.windows.kept c.windows.both
     c.if-kept-eq0.kept c.if-kept-eq0.both c.if-kept-eq0.end
 settled c =
     let i = c.loop-kept.invariant.0 in
@@ -99,8 +98,7 @@ settled c =
 
 -- every window of the run takes part
 entering : (c : In-windows) →
-    let a = c.args in
-    enters a.self.pattern.now a.self.trace.now c.windows.y ≡ true
+    enters c.args.self.pattern.now c.args.self.trace.now c.windows.y ≡ true
 entering c =
     ap not (c.requires.2.entering c.windows.y c.windows.invariant.begun c.windows-test.true)
 
@@ -119,24 +117,24 @@ overflow_cast-survivors c = let k = few-kept (goal.at.overflow_cast-survivors c)
 pub offset_bounds-survivors-kept-in-windows : goal.offset_bounds-survivors-kept-in-windows
 offset_bounds-survivors-kept-in-windows c =
     let k = few-kept (goal.at.offset_bounds-survivors-kept-in-windows c).At-windows in
-    let r = room (settled (goal.at.offset_bounds-survivors-kept-in-windows c).Joined-kept-eq0).fewer k.0 k.2 c.windows-test.true c.requires.2.inside c.requires.0 c.windows.invariant.behind.same_length in
+    let r = room (settled (goal.at.offset_bounds-survivors-kept-in-windows c).Joined-kept-eq0).fewer k.0 k.2 c.windows-test.true (among (goal.at.offset_bounds-survivors-kept-in-windows c).Start) c.requires.0 c.windows.invariant.behind.same_length in
     omega (arith, r.1)
 
 pub bounds-survivors-kept-in-windows : goal.bounds-survivors-kept-in-windows
 bounds-survivors-kept-in-windows c =
     let k = few-kept (goal.at.bounds-survivors-kept-in-windows c).At-windows in
-    let r = room (settled (goal.at.bounds-survivors-kept-in-windows c).Joined-kept-eq0).fewer k.0 k.2 c.windows-test.true c.requires.2.inside c.requires.0 c.windows.invariant.behind.same_length in
+    let r = room (settled (goal.at.bounds-survivors-kept-in-windows c).Joined-kept-eq0).fewer k.0 k.2 c.windows-test.true (among (goal.at.bounds-survivors-kept-in-windows c).Start) c.requires.0 c.windows.invariant.behind.same_length in
     r.0
 
 pub overflow_add-kept : goal.overflow_add-kept
 overflow_add-kept c =
     let k = few-kept (goal.at.overflow_add-kept c).At-windows in
-    let r = room (settled (goal.at.overflow_add-kept c).Joined-kept-eq0).fewer k.0 k.2 c.windows-test.true c.requires.2.inside c.requires.0 c.windows.invariant.behind.same_length in
+    let r = room (settled (goal.at.overflow_add-kept c).Joined-kept-eq0).fewer k.0 k.2 c.windows-test.true (among (goal.at.overflow_add-kept c).Start) c.requires.0 c.windows.invariant.behind.same_length in
     omega (arith, r.1)
 
 pub windows-preserved : goal.windows-preserved
 windows-preserved c =
-    run_pushed c.windows.invariant c.windows-test.true (entering (goal.at.windows-preserved c).In-windows) c.requires.2.inside c.requires.0 (rw c.in-Pushed.is at (settled (goal.at.windows-preserved c).Joined-kept-eq0))
+    run_pushed c.windows.invariant c.windows-test.true (entering (goal.at.windows-preserved c).In-windows) (among (goal.at.windows-preserved c).Start) c.requires.0 (rw c.in-Pushed.is at (settled (goal.at.windows-preserved c).Joined-kept-eq0))
 
 pub overflow_add-result : goal.overflow_add-result
 overflow_add-result c =
@@ -144,6 +142,3 @@ overflow_add-result c =
     let h = c.requires.2.within in
     let f = few-windows (goal.at.overflow_add-result c).Start in
     omega arith
-
-pub returns : goal.returns
-returns c = (run_ended c.windows.invariant c.windows-test.false, c.windows.invariant.behind)

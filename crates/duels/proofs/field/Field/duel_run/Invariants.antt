@@ -2,8 +2,6 @@
 -- left, and the entries of the stack.
 use Prim.Native.Nat.{◌+◌, ◌-◌}
 use mathlib.Core.Path.{◌≡◌}
-use lib.ListN.{length}
-use Rattle.order.specs.Sizes.{windows_of}
 use Rattle.duels.specs.DuelPromise.{meets_by}
 use Rattle.duels.specs.Inside.Stacks.{enters}
 use Rattle.duels.proofs.StackLaws.{Looking, Running}
@@ -18,4 +16,4 @@ decreases-loop-kept l = l.kept
 
 abbrev pub invariant-windows : goal.invariant-windows
 invariant-windows l =
-    Running (meets_by l.self.pattern.now l.self.witness_i.now l.self.witness_j.now l.self.trace.now) (enters l.self.pattern.now l.self.trace.now) (windows_of (length l.self.pattern.now) (length l.self.trace.now)) l.from l.past l.initial.survivors l.survivors l.before.windows l.kept l.both l.y
+    Running (meets_by l.self.pattern.now l.self.witness_i.now l.self.witness_j.now l.self.trace.now) (enters l.self.pattern.now l.self.trace.now) l.self.windows l.from l.past l.initial.survivors l.survivors l.before.windows l.kept l.both l.y

@@ -4,7 +4,6 @@ use mathlib.Core.Path.{sym, ◌∙◌, ap₂}
 use native.Mathlib.Omega.{arith}
 use lib.ListN.{get_or}
 use Rattle.duels.specs.Inside.Codes.{own_code_lem, start_code}
-use Rattle.duels.proofs.CodeLaws.{some-told}
 use Rattle.duels.proofs.MeetingByEntries.{far_agree, none_agree, some-duel, duelable}
 use Rattle.duels.proofs.field.Field.meet.Goals as goal
 
@@ -18,12 +17,6 @@ returns-then-i c =
     let f = c.args.self in
     sym (none_agree f.pattern.now f.witness_i.now f.witness_j.now f.trace.now c.args.x.0 c.args.y.0 c.if-self-a.false c.if-i.true)
 
-pub bounds-codes-a : goal.bounds-codes-a
-bounds-codes-a c =
-    let l = c.requires.coded.long in
-    let h = c.if-self-a.false in
-    omega arith
-
 pub duel-requires : goal.duel-requires
 duel-requires c =
     let f = c.args.self in
@@ -31,7 +24,7 @@ duel-requires c =
     let a = c.args.y.0 - c.args.x.0 in
     let i = c.from.ensures in
     let j = c.from-2.ensures in
-    let t = some-told (c.requires.coded.each a c.if-self-a.false) c.if-i.false in (
+    let t = (c.requires.coded.each a c.if-self-a.false).told c.if-i.false in (
       duelable P f.trace.now c.args.y.0 a (get_or f.witness_i.now a 0) (get_or f.witness_j.now a 0) t.0 i j (omega arith) c.requires.inside,
       t.1 ∙ ap₂ (own_code_lem P a) (sym i) (sym j),
       t.2 ∙ ap₂ (start_code P) (sym i) (sym j),

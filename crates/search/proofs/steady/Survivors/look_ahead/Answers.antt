@@ -5,7 +5,7 @@ use mathlib.Core.Path.{◌≡◌, refl}
 use native.Mathlib.Omega.{arith}
 use lib.ListN.{length, get_or}
 use Rattle.search.specs.Inside.Runs.{block}
-use Rattle.search.proofs.RunLaws.{all_inside, free-block, stepped_block, no_block}
+use Rattle.search.proofs.RunLaws.{all_inside, free-block, stepped_block}
 use Rattle.search.proofs.steady.Survivors.look_ahead.Goals as goal
 use Rattle.search.proofs.steady.Survivors.look_ahead.Goals.{Else-reach-x}
 
@@ -19,26 +19,11 @@ at_last : (c : Else-reach-x) → c.args.reach + 1 ≡
     get_or c.args.self.windows.now c.args.k 0 + length c.args.self.pattern.now
 at_last c = c.if-reach-x.false
 
-pub returns-then-self-last : goal.returns-then-self-last
-returns-then-self-last c =
-    let t = c.if-self-last.true in
-    no_block _ _ _ _ _ _ c.requires.2 (λ b. let w = b.within in absurd (omega arith))
-
-pub returns-then-self-last-2 : goal.returns-then-self-last-2
-returns-then-self-last-2 c =
-    let t = c.if-self-last-2.true in
-    no_block _ _ _ _ _ _ c.requires.2 (λ b. t b.apart)
-
-pub returns-then-reach-x : goal.returns-then-reach-x
-returns-then-reach-x c =
-    let t = c.if-reach-x.true in
-    no_block _ _ _ _ _ _ c.requires.2 (λ b. t b.last)
-
 pub returns-then-self-eq1 : goal.returns-then-self-eq1
 returns-then-self-eq1 c =
     let far = c.if-self-last.false in
     record {
-      passing = λ e. free-block c.requires.1 c.args.k _ (block - 1) refl far (apart (goal.at.returns-then-self-eq1 c).Else-reach-x) (at_last (goal.at.returns-then-self-eq1 c).Else-reach-x) c.if-self-eq1.true;
+      passing = λ e. free-block c.args.self.rows c.args.k _ (block - 1) refl far (apart (goal.at.returns-then-self-eq1 c).Else-reach-x) (at_last (goal.at.returns-then-self-eq1 c).Else-reach-x) c.if-self-eq1.true;
       looked = λ b many. let one = c.if-self-eq1.true in absurd (omega (arith, one));
       few = omega arith;
       ahead = omega arith;
@@ -47,20 +32,20 @@ returns-then-self-eq1 c =
 pub goes_on-requires : goal.goes_on-requires
 goes_on-requires c =
     let far = c.if-self-last.false in
-    let i = all_inside c.requires.1 c.args.k _ (block - 1) refl far (apart (goal.at.goes_on-requires c).Else-reach-x) in
+    let i = all_inside c.args.self.rows c.args.k _ (block - 1) refl far (apart (goal.at.goes_on-requires c).Else-reach-x) in
     let l = at_last (goal.at.goes_on-requires c).Else-reach-x in
-    let some = c.requires.0.some in
+    let some = c.args.self.steady.some in
     let many = c.if-self-eq1.false in
-    (omega (arith, many), c.requires.1.trace)
+    (omega (arith, many), c.args.self.rows.trace)
 
 pub returns : goal.returns
 returns c =
     let far = c.if-self-last.false in
     let l = at_last (goal.at.returns c).Else-reach-x in
-    let some = c.requires.0.some in
+    let some = c.args.self.steady.some in
     let many = c.if-self-eq1.false in
     record {
-      passing = λ e. stepped_block c.requires.1 c.args.k _ (block - 1) refl far (apart (goal.at.returns c).Else-reach-x) c.requires.0 (omega (arith, many)) l (omega (arith, many)) (c.goes_on.ensures e);
+      passing = λ e. stepped_block c.args.self.rows c.args.k _ (block - 1) refl far (apart (goal.at.returns c).Else-reach-x) c.args.self.steady (omega (arith, many)) l (omega (arith, many)) (c.goes_on.ensures e);
       looked = λ b many. refl;
       few = omega arith;
       ahead = omega arith;

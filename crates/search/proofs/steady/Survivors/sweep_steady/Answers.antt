@@ -3,57 +3,28 @@ use Prim.Native.Nat.{◌+◌, ◌*◌, ◌≤◌}
 use native.Mathlib.Omega.{arith}
 use lib.ListN.{length}
 use Rattle.search.specs.Inside.Sweeps.{first, turn}
-use Rattle.search.proofs.SweepSteps.{none_swept, from_here, from_there, all_swept, rows-number, rows_few}
+use Rattle.search.proofs.SweepSteps.{from_here, from_there, all_swept, rows-number, rows_few}
 use Rattle.search.proofs.steady.Survivors.sweep_steady.Goals as goal
 use Rattle.search.proofs.steady.Survivors.sweep_steady.Goals.{At-loop-k}
-
-pub steady_some-so_far-requires : goal.steady_some-so_far-requires
-steady_some-so_far-requires c =
-    let k = c.min-k.ensures in
-    (c.requires, omega arith, omega arith, none_swept _ _ _ _)
 
 pub loop-k-init : goal.loop-k-init
 loop-k-init c =
     let e = c.steady_some-so_far.ensures in
     let g = e.1 in
     let l = e.0.so_far.long in
-    let r = c.requires.room in
-    (from_here e.0, omega arith, omega arith, first e.0 (omega arith))
-
-pub steady_turn-turn-requires : goal.steady_turn-turn-requires
-steady_turn-turn-requires c =
-    let l = c.loop-k in
-    let h = l.invariant.0.so_far.long in
-    let p = l.invariant.2 in
-    (record { steady = c.requires.steady; rows = c.requires.rows; room = omega arith }, c.loop-k-test.true, from_here l.invariant.0)
+    let r = c.requires in
+    (from_here e.0, omega arith, first e.0 (omega arith))
 
 -- what is made by the time of a turn is within the bound, and the bound is a small number
 few-made : (c : At-loop-k) →
-    let a = c.args in
-    (c.loop-k.so_far.spent + c.loop-k.wasted ≤ length a.self.trace.now + 2 * length a.self.windows.now) × (length a.self.trace.now + 2 * length a.self.windows.now ≤ 196610)
+    (c.loop-k.so_far.spent + c.loop-k.wasted ≤ length c.args.self.trace.now + 2 * length c.args.self.windows.now) × (length c.args.self.trace.now + 2 * length c.args.self.windows.now ≤ 196610)
 few-made c =
     let i = c.loop-k.invariant.1 in
     let r = c.loop-k.invariant.0.so_far.reached in
     let w = c.loop-k.invariant.0.so_far.within in
-    let n = c.requires.rows.trace in
-    let m = rows_few c.requires.rows in
+    let n = c.args.self.rows.trace in
+    let m = rows_few c.args.self.rows in
     (omega arith, omega arith)
-
-pub overflow_add-wasted : goal.overflow_add-wasted
-overflow_add-wasted c =
-    let f = few-made (goal.at.overflow_add-wasted c).At-loop-k in
-    let t = c.steady_turn-turn.ensures in
-    let g = t.cheap in
-    let q = t.swept_on.so_far.reached in
-    let v = t.swept_on.so_far.within in
-    omega (arith, f.0, f.1)
-
-pub loop-k-smaller : goal.loop-k-smaller
-loop-k-smaller c =
-    let t = c.steady_turn-turn.ensures in
-    let o = t.onward in
-    let v = t.swept_on.so_far.within in
-    omega arith
 
 pub loop-k-preserved : goal.loop-k-preserved
 loop-k-preserved c =
@@ -61,11 +32,11 @@ loop-k-preserved c =
     let f = few-made (goal.at.loop-k-preserved c).At-loop-k in
     let t = c.steady_turn-turn.ensures in
     let g = t.cheap in
-    (from_there c.loop-k.invariant.0 t.swept_on, omega (arith, f.0, f.1), c.loop-k.invariant.2, turn c.loop-k.invariant.3 t)
+    (from_there c.loop-k.invariant.0 t.swept_on, omega (arith, f.0, f.1), turn c.loop-k.invariant.2 t)
 
 pub returns : goal.returns
 returns c =
     let f = few-made (goal.at.returns c).At-loop-k in (
-      all_swept (from_there c.steady_some-so_far.ensures.0 c.loop-k.invariant.0) c.loop-k-test.false (rows-number c.requires.rows) (omega (arith, f.0, f.1)),
-      record { k = _; reach = _; done = c.loop-k-test.false; turned = c.loop-k.invariant.3 },
+      all_swept (from_there c.steady_some-so_far.ensures.0 c.loop-k.invariant.0) c.loop-k-test.false (rows-number c.args.self.rows) (omega (arith, f.0, f.1)),
+      record { k = _; reach = _; done = c.loop-k-test.false; turned = c.loop-k.invariant.2 },
     )
