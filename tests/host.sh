@@ -37,6 +37,14 @@ for other in "$(sed -n 's/^Version: //p' host/tension.pc.in)" "$(sed -n '/^## /{
 done
 echo "host: version $version"
 
+# the header says that the calls call nothing but these two: a host without a C library brings them itself
+others=$("${cc[0]%gcc}nm" -u "$archive" | awk 'NF == 2 && $2 != "memcpy" && $2 != "memset" {print $2}' | sort -u | paste -s -d ' ')
+if [ -n "$others" ]; then
+  echo "host: the archive asks a host's program for more than memcpy and memset: $others" >&2
+  exit 1
+fi
+echo "host: the archive asks for memcpy and memset alone"
+
 "${cc[@]}" -std=c99 -O2 -Wall -Wextra -Ihost host/example.c "$archive" -o "$work/example"
 "${cc[@]}" -std=c99 -O2 -Wall -Wextra -Ihost host/camera.c "$archive" -o "$work/camera"
 "${cc[@]}" -std=c99 -O2 -Wall -Wextra -Ihost host/replay.c "$archive" -o "$work/replay"

@@ -2,9 +2,11 @@
 // and every buffer after it to standard output. The cases and what they must come to are made by reference/, which shares
 // nothing with the library; reference/README.md has the stream's format.
 //
-// Buffers hold a guard value before each call. What a call must come to is docs/RULES.md's; a case takes what its call takes, the
-// clearing of its buffers, and a read or a write for each number. The buffers are as large as a case may ask for, 1 MB of stack.
-// A write that fails ends the program with that error.
+// Buffers hold a guard value before each call. They are made before the first read of a case: a function clears the room of all its arrays
+// as it starts, and one that is made after a read is then cleared twice. What a call must come to is docs/RULES.md's; a case takes what
+// its call takes, the clearing of its buffers, and a read or a write for each number. The buffers are as large as a case may ask for, 1 MB
+// of stack.
+// The stream is replayed to its end also where a write fails; the program then ends with that error.
 
 #![tactic(auto)]
 
@@ -15,7 +17,7 @@ use input::{
     lend, read_byte, read_bytes, read_entries, read_length, read_long, read_samples, read_short,
 };
 use order::{Counts, Refusal, Window};
-use output::{GUARD_SAMPLE, GUARD8, GUARD16, GUARD32, refusal, show};
+use output::{GUARD_SAMPLE, GUARD8, GUARD16, GUARD32, Output, refusal, show};
 use recording::Reading;
 use report::ShortText;
 use std::io;
@@ -89,8 +91,8 @@ fn show_prepared(rt: &impl Print, answer: Result<(), Refusal>) -> io::Result<()>
 // Prepares a pattern into tables of the lengths that follow.
 fn replay_prepare(input: &mut Stdin, rt: &impl Print) -> io::Result<()> {
     let mut samples = [0i32; TABLE];
-    let pattern = read_samples(input, &mut samples);
     let mut own = Tables::filled(GUARD16);
+    let pattern = read_samples(input, &mut samples);
     let low = lend(&mut own.low, read_length(input));
     let high = lend(&mut own.high, read_length(input));
     let witness_i = lend(&mut own.witness_i, read_length(input));
@@ -122,8 +124,11 @@ fn show_searched(rt: &impl Print, answer: Result<Counts, Refusal>) -> io::Result
 // buffers of the lengths after the trace.
 fn replay_search(input: &mut Stdin, rt: &impl Print) -> io::Result<()> {
     let mut samples = [0i32; TABLE];
-    let pattern = read_samples(input, &mut samples);
     let mut own = Tables::filled(0);
+    let mut trace = [0i32; TRACE];
+    let mut survivors = [GUARD32; TRACE];
+    let mut positions = [GUARD32; TRACE];
+    let pattern = read_samples(input, &mut samples);
     // A pattern that is refused leaves the tables as they are.
     let _ = tables::prepare(
         pattern,
@@ -140,10 +145,7 @@ fn replay_search(input: &mut Stdin, rt: &impl Print) -> io::Result<()> {
     for _ in 0..read_byte(input) {
         own.damage(input);
     }
-    let mut trace = [0i32; TRACE];
     let trace = read_samples(input, &mut trace);
-    let mut survivors = [GUARD32; TRACE];
-    let mut positions = [GUARD32; TRACE];
     let survivors = lend(&mut survivors, read_long(input));
     let positions = lend(&mut positions, read_long(input));
     let answer = search::search(
@@ -195,8 +197,8 @@ fn show_reading(rt: &impl Print, answer: Result<Reading, Refusal>) -> io::Result
 
 fn replay_read(input: &mut Stdin, rt: &impl Print) -> io::Result<()> {
     let mut bytes = [0u8; BYTES];
-    let bytes = read_bytes(input, &mut bytes);
     let mut samples = [GUARD_SAMPLE; SAMPLES];
+    let bytes = read_bytes(input, &mut bytes);
     let samples = lend(&mut samples, read_long(input));
     show_reading(rt, recording::read(bytes, samples))?;
     show(rt, "samples", samples)
@@ -231,27 +233,37 @@ fn show_reported(rt: &impl Print, answer: Result<usize, ShortText>, text: &[u8])
 // Only the two lines that read the bytes are `replay_read`'s: the buffer has another type, length and guard, and the call is another.
 fn replay_report(input: &mut Stdin, rt: &impl Print) -> io::Result<()> {
     let mut bytes = [0u8; BYTES];
-    let bytes = read_bytes(input, &mut bytes);
     let mut text = [GUARD8; TEXT];
+    let bytes = read_bytes(input, &mut bytes);
     let text = lend(&mut text, read_long(input));
     show_reported(rt, report::report(bytes, text), text)
 }
 
 // ---- the stream
 
+// Replays one case; answers whether it was shown, and none at the stream's end.
+fn replay_one(input: &mut Stdin, out: &impl Print) -> Option<io::Result<()>> {
+    // The kind is looked at here alone: an enum would be made of the byte by this same match, and be taken apart by one more.
+    match read_byte(input) {
+        1 => Some(replay_prepare(input, out)),
+        2 => Some(replay_search(input, out)),
+        3 => Some(replay_agree(input, out)),
+        4 => Some(replay_read(input, out)),
+        5 => Some(replay_report(input, out)),
+        // Byte 0 ends the stream.
+        _ => None,
+    }
+}
+
 fn main(rt: HostRuntime) -> io::Result<()> {
     let mut input = rt.stdin();
+    let mut ended = Ok(());
     for _ in 0..CASES {
-        // The kind is looked at here alone: an enum would be made of the byte by this same match, and be taken apart by one more.
-        match read_byte(&mut input) {
-            1 => replay_prepare(&mut input, &rt)?,
-            2 => replay_search(&mut input, &rt)?,
-            3 => replay_agree(&mut input, &rt)?,
-            4 => replay_read(&mut input, &rt)?,
-            5 => replay_report(&mut input, &rt)?,
-            // Byte 0 ends the stream.
-            _ => break,
-        }
+        let out = Output::after(&rt, &ended);
+        let Some(shown) = replay_one(&mut input, &out) else {
+            break;
+        };
+        ended = ended.and(shown);
     }
-    Ok(())
+    ended
 }

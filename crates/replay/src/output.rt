@@ -1,6 +1,6 @@
 // What a call answered and what its buffers hold, in the reference's words, on standard output.
 //
-// Follows reference/README.md, "The stream of cases". A write for each word and number.
+// Follows reference/README.md, "The stream of cases". A write for each word, each entry and its space, and each run.
 
 use order::{Refusal, UNUSED};
 use std::fmt::Display;
@@ -14,6 +14,44 @@ pub(crate) const GUARD16: u16 = 43690;
 pub(crate) const GUARD32: u32 = 2863311530;
 
 pub(crate) const GUARD_SAMPLE: i32 = -1431655766;
+
+// Standard output; after a write that failed, what writes nothing more. A case is read before its first word is written, so the stream is
+// gone through to its end all the same. A struct, and no flag at each write: the functions between hand a failure up by `?`.
+#[derive(Clone, Copy)]
+pub(crate) struct Output<'a, R>(Option<&'a R>);
+
+impl<'a, R: Print> Output<'a, R> {
+    pub(crate) fn after(rt: &'a R, ended: &io::Result<()>) -> Output<'a, R> {
+        match ended {
+            Ok(()) => Output(Some(rt)),
+            Err(_) => Output(None),
+        }
+    }
+}
+
+// One match in each: all that the three share, since each passes another call on.
+impl<R: Print> Print for Output<'_, R> {
+    fn print<D: Display + Drop>(&self, value: D) -> io::Result<()> {
+        match self.0 {
+            Some(rt) => rt.print(value),
+            None => Ok(()),
+        }
+    }
+
+    fn println<D: Display + Drop>(&self, value: D) -> io::Result<()> {
+        match self.0 {
+            Some(rt) => rt.println(value),
+            None => Ok(()),
+        }
+    }
+
+    fn write_all(&self, bytes: &[u8]) -> io::Result<()> {
+        match self.0 {
+            Some(rt) => rt.write_all(bytes),
+            None => Ok(()),
+        }
+    }
+}
 
 // A refusal's number and place, at a line's end. No `Display` of `Refusal`: each program says it in words of its own.
 pub(crate) fn refusal(rt: &impl Print, why: Refusal) -> io::Result<()> {

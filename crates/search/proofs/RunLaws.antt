@@ -4,17 +4,15 @@
 -- Assumes nothing.
 use Prim.Native.Nat.{ℕ, zero, suc, ◌+◌, ◌-◌, ◌*◌, ◌≤◌, ◌<◌, max}
 use mathlib.Core.Path.{◌≡◌, refl, sym, ◌∙◌, ap, ap₂, subst}
-use mathlib.Core.List.{List, [], ◌∷◌, ◌++◌}
+use mathlib.Core.List.{List}
 use mathlib.Core.Bool.{true}
 use native.Mathlib.Omega.{arith}
 use native.Mathlib.Numerals.{add-one}
 use native.Mathlib.Nat.{zero-mul, suc-mul}
 use borrow.Author.Count.{below_more}
 use lib.IntN.{ℤ, pos}
-use lib.ListN.{length, get_or, take, drop, set, take-append-drop, length-drop}
-use lib.Seq.{get_or-drop, length-take-le}
-use borrow.Rule.Slice.PartMut.{put_mid}
-use Rattle.std.proofs.lemmas.List.{set-append_right}
+use lib.ListN.{length, get_or, drop, set}
+use lib.Seq.{get_or-drop}
 use Rattle.std.specs.declared.cmp.Ordering.{Ordering}
 use Rattle.order.specs.declared.steps.Tested.TheVariants.{Passed}
 use Rattle.order.specs.Sizes.{at}
@@ -26,7 +24,7 @@ use Rattle.order.proofs.PlaceTests.{first_place_free}
 use Rattle.order.proofs.Whole.{survivors_ascend}
 use Rattle.search.specs.Inside.Asked.{Kept}
 use Rattle.search.specs.Inside.Courses.{Steady}
-use Rattle.search.specs.Inside.Runs.{block, GoesOn, RunOf}
+use Rattle.search.specs.Inside.Runs.{GoesOn, RunOf, listed_run}
 use Rattle.search.specs.Inside.Sweeps.{SweptOne, SweptTo}
 use Rattle.search.proofs.SweepSteps.{spaced, last_passed, next_swept, entry_of, rows-number, survivor_inside}
 
@@ -37,11 +35,6 @@ goes_further g h = record { each = below_more _ _ g.each h }
 
 -- ---- a run in the list
 
--- n entries of the survivors' buffer, from entry k on, listed from entry `found` on
-pub listed_run : List ℕ → ℕ → ℕ → ℕ → List ℕ → List ℕ
-listed_run buffer k found zero l = l
-listed_run buffer k found (suc n) l = set (listed_run buffer k found n l) (found + n) (get_or buffer (k + n) 0)
-
 pub listed_none : (buffer : List ℕ) (k found : ℕ) (l : List ℕ) → listed_run buffer k found 0 l ≡ l
 unfolding listed_run
 listed_none buffer k found l = refl
@@ -49,35 +42,6 @@ listed_none buffer k found l = refl
 pub listed_more : (buffer : List ℕ) (k found n : ℕ) (l : List ℕ) → listed_run buffer k found (n + 1) l ≡ set (listed_run buffer k found n l) (found + n) (get_or buffer (k + n) 0)
 unfolding listed_run
 listed_more buffer k found n l = rw add-one refl
-
--- one entry more of a list in the place of another's
-one_over : (n : ℕ) (xs ys : List ℕ) → n < length xs → n < length ys → take (suc n) xs ++ drop (suc n) ys ≡ set (take n xs ++ drop n ys) n (get_or xs n 0)
-one_over n [] ys g h = absurd (omega arith)
-one_over n (x ∷ xs) [] g h = absurd (omega arith)
-one_over zero (x ∷ xs) (y ∷ ys) g h = refl
-one_over (suc n) (x ∷ xs) (y ∷ ys) g h = ap (λ l. x ∷ l) (one_over n xs ys (omega arith) (omega arith))
-
--- a part of the survivors copied over a part of a list is that run listed
-listed_copy : (buffer l : List ℕ) (k found n : ℕ) → k + n ≤ length buffer → found + n ≤ length l → put_mid found n l (take n (drop k buffer)) ≡ listed_run buffer k found n l
-unfolding listed_run
-listed_copy buffer l k found zero g h = take-append-drop found l
-listed_copy buffer l k found (suc n) g h =
-    let here : found + n - found ≡ n = omega arith in
-    let xs = drop k buffer in
-    let ys = drop found l in
-    let a = length-drop k buffer in
-    let b = length-drop found l in
-    ap (λ t. take found l ++ t) (one_over n xs ys (omega arith) (omega arith) ∙ ap (λ i. set (take n xs ++ drop n ys) i (get_or xs n 0)) (sym here)) ∙
-    sym (set-append_right (take found l) (take n xs ++ drop n ys) found (found + n) (get_or xs n 0) (length-take-le found l (omega arith)) (omega arith)) ∙
-    ap₂ (λ t v. set t (found + n) v) (listed_copy buffer l k found n (omega arith) (omega arith)) (get_or-drop k buffer n 0)
-
--- a block of them, as the code copies it
-pub block_listed : (buffer l : List ℕ) (k found : ℕ) {copied : List ℕ} → k + block ≤ length buffer → found + block ≤ length l → copied ≡ take (k + block - k) (drop k buffer)
-    → put_mid found (found + block - found) l copied ≡ listed_run buffer k found block l
-block_listed buffer l k found g h e =
-    let n : found + block - found ≡ block = omega arith in
-    let m : k + block - k ≡ block = omega arith in
-    rw n (ap (put_mid found block l) (e ∙ ap (λ (i : ℕ). take i (drop k buffer)) m) ∙ listed_copy buffer l k found block g h)
 
 -- ---- survivors beside each other
 

@@ -14,7 +14,7 @@ ghost use Rattle.order.specs.EntryTest.{told};
 ghost use Rattle.sweep.specs.Inside.{Testable};
 ghost use Rattle.search.specs.Inside.Asked.{Kept};
 ghost use Rattle.search.specs.Inside.Courses.{Steady};
-ghost use Rattle.search.specs.Inside.Runs.{block, GoesOn, LookOf};
+ghost use Rattle.search.specs.Inside.Runs.{block, GoesOn, LookOf, listed_run};
 ghost use Rattle.search.specs.Inside.Sweeps.{Climbed, SweptTo, TurnOf, TurnedAll, SweepOf};
 
 use lists::list_one;
@@ -62,6 +62,17 @@ fn goes_on(trace: &[i32], e: usize, way: Ordering) -> bool
         all = all & goes(trace[e + 1 + k], trace[e + k], way);
     }
     all
+}
+
+// Lists a block: its entries of the survivors, from entry k on, from entry `found` of the positions on. Counted: for the library's
+// `copy_from_slice` the archive would ask a C host for `memmove`, beside the `memcpy` and `memset` that it asks for.
+fn list_block(survivors: &[u32], k: usize, positions: &mut [u32], found: usize)
+    requires { (k + block ≤ length survivors.now) × (found + block ≤ length positions.old) }
+    ensures { positions.new ≡ listed_run survivors.now k found block positions.old }
+{
+    for i in 0..BLOCK {
+        positions[found + i] = survivors[k + i];
+    }
 }
 
 // The survivors of a steady pattern: their windows, in the trace that they lie in, and the way that the pattern goes. Room in positions is
@@ -199,8 +210,7 @@ impl<'a> Survivors<'a> {
         let look = self.look_ahead(k, reach);
         if look.whole {
             let found = before.found;
-            // the block is listed
-            positions[found..found + BLOCK].copy_from_slice(&self.windows[k..k + BLOCK]);
+            list_block(self.windows, k, positions, found);
             return Turn {
                 next: k + BLOCK,
                 end: Progress {

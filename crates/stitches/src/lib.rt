@@ -49,7 +49,8 @@ fn free_blocks(samples: &[i32]) -> usize
 }
 
 // The place of the first sample that is lost; where none is, the number of samples. The very first is looked at by itself: lost stitches
-// come in rows, and behind one of them the next is not worth a block.
+// come in rows, and behind one of them the next is not worth a block. Behind the blocks it goes over places and not over samples: a look
+// that passes over every second one can then be written down, and is refused for what it misses.
 pub fn first_lost(samples: &[i32]) -> usize
     ensures { result ≡ or_end (first_lost_lem samples.now) (length samples.now) }
 {
@@ -60,10 +61,7 @@ pub fn first_lost(samples: &[i32]) -> usize
         return 0;
     }
     let free = free_blocks(samples);
-    match samples[free..]
-        .iter()
-        .position(|sample| equals_lost(*sample))
-    {
+    match (free..samples.len()).position(|i| equals_lost(samples[i])) {
         Some(k) => free + k,
         None => samples.len(),
     }

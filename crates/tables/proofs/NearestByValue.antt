@@ -40,7 +40,7 @@ high_found {hi = hi} P j n l = last-nearest (turned upward) (λ a b s t. le_z_an
 
 -- ---- stretches that v is not in
 
-within_joined : {P : List ℤ} {from mid to : ℕ} {lo hi : ℤ} → NoneWithin P from mid lo hi → NoneWithin P mid to lo hi → NoneWithin P from to lo hi
+pub within_joined : {P : List ℤ} {from mid to : ℕ} {lo hi : ℤ} → NoneWithin P from mid lo hi → NoneWithin P mid to lo hi → NoneWithin P from to lo hi
 within_joined {P} {from} {mid} {to} {lo} {hi} a b = record { clear = λ i g h. go i g h (ltb i mid) refl }
   where
     go : (i : ℕ) → from ≤ i → i < to → (t : Bool) → ltb i mid ≡ t → Outside lo hi (at P i)

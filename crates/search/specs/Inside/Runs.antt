@@ -1,5 +1,5 @@
 -- Blocks of the sweep for a steady pattern: survivors that start one after the other, of which each has its last place alone left.
-use Rattle.std.specs.Prelude.{ℕ, ◌+◌, ◌-◌, ◌*◌, ◌≤◌, ◌<◌, ◌≡◌, Bool, true, List, ℤ, length, get_or, drop}
+use Rattle.std.specs.Prelude.{ℕ, zero, suc, ◌+◌, ◌-◌, ◌*◌, ◌≤◌, ◌<◌, ◌≡◌, Bool, true, List, ℤ, length, get_or, drop, set}
 use Rattle.std.specs.declared.cmp.Ordering.{Ordering}
 use Rattle.order.specs.declared.steps.Tested.TheVariants.{Passed}
 use Rattle.order.specs.PlaceTest.{test_of}
@@ -38,3 +38,8 @@ pub record LookOf (P T : List ℤ) (buffer : List ℕ) (kept k reach : ℕ) (who
   pub looked : BlockAhead P buffer kept k reach → 1 < length P → made ≡ block
   pub few : made ≤ block
   pub ahead : k + made ≤ kept
+
+-- n entries of the survivors' buffer, from entry k on, listed from entry `found` on
+unfoldable pub listed_run : List ℕ → ℕ → ℕ → ℕ → List ℕ → List ℕ
+listed_run buffer k found zero l = l
+listed_run buffer k found (suc n) l = set (listed_run buffer k found n l) (found + n) (get_or buffer (k + n) 0)

@@ -1,6 +1,6 @@
 -- The goals of `search_row` that the check leaves.
 use Prim.Native.Nat.{◌+◌, ◌-◌}
-use mathlib.Core.Path.{◌≡◌, refl, ◌∙◌}
+use mathlib.Core.Path.{refl, ◌∙◌}
 use native.Mathlib.Omega.{arith}
 use lib.ListN.{length}
 use borrow.Rule.Slice.PartMut.{put_mid, same_len_mid}
@@ -13,11 +13,11 @@ pub loop-c-init : goal.loop-c-init
 loop-c-init c = (omega arith, refl, listed_none _ _ _ _)
 
 -- the block's columns behind those before it
-block : (c : After-search_block-n) → let n = c.loop-c.c + c.min.result in
+block : (c : After-search_block-n) → let n = c.loop-c.c + c.min-wide.result in
     Listed (λ i. all_places_pass c.args.self.frame.now c.args.self.steps.now (c.args.self.at + i)) c.args.self.base n 0 c.args.free.now (c.loop-c.n + c.search_block-n.result)
     (put_mid c.loop-c.n (length c.loop-c.free - c.loop-c.n) c.loop-c.free c.search_block-n.new.free)
 block c =
-    let w = c.min.ensures in
+    let w = c.min-wide.ensures in
     let h = c.loop-c-test.true in
     let l = c.loop-c.invariant in
     let e = l.1 in
@@ -27,15 +27,10 @@ block c =
 
 pub loop-c-preserved : goal.loop-c-preserved
 loop-c-preserved c =
-    let w = c.min.ensures in
-    let l = c.loop-c.invariant in (
-      omega arith,
-      same_len_mid _ _ _ _ c.search_block-n.auto.free ∙ l.1,
-      listed_all (block (goal.at.loop-c-preserved c).After-search_block-n) (let z : c.loop-c.c + c.min.result ≡ c.loop-c.c + 128 = omega arith in z),
-    )
-
-pub returns-2 : goal.returns-2
-returns-2 c =
-    let w = c.min.ensures in
+    let w = c.min-wide.ensures in
     let h = c.loop-c-test.true in
-    listed_all (block (goal.at.returns-2 c).After-search_block-n) (let z : c.loop-c.c + c.min.result ≡ c.args.self.columns = omega arith in z)
+    let l = c.loop-c.invariant in
+    (omega arith, same_len_mid _ _ _ _ c.search_block-n.auto.free ∙ l.1, block (goal.at.loop-c-preserved c).After-search_block-n)
+
+pub returns : goal.returns
+returns c = let l = c.loop-c.invariant in listed_all l.2 (let e = l.0 in let h = c.loop-c-test.false in omega arith)

@@ -4,9 +4,9 @@ use Prim.Native.Nat.{◌+◌}
 use mathlib.Core.Logic.{inl}
 use native.Mathlib.Omega.{arith}
 use lib.ListN.{length}
-use Rattle.search.specs.Inside.Runs.{block}
+use Rattle.search.specs.Inside.Runs.{block, listed_run}
 use Rattle.search.specs.Inside.Sweeps.{SweptTo}
-use Rattle.search.proofs.RunLaws.{listed_run, block_listed, run_swept}
+use Rattle.search.proofs.RunLaws.{run_swept}
 use Rattle.search.proofs.steady.Survivors.steady_turn.Goals as goal
 use Rattle.search.proofs.steady.Survivors.steady_turn.Goals.{Then-look}
 
@@ -28,7 +28,7 @@ returns-then-look c =
     let f = b.so_far.few in
     let r = b.room in
     record {
-      swept_on = rw (block_listed c.args.self.windows.now c.args.positions.now c.args.k c.args.before.found (omega arith) (omega arith) c.copy_from_slice.ensures.after) b;
+      swept_on = rw c.list_block.ensures b;
       onward = omega arith;
       cheap = omega arith;
       looked = λ b many. let e = a.looked b many in inl (omega arith, omega arith);
